@@ -1,0 +1,2 @@
+pub mod BeginLaws
+pub mod HearLaws

@@ -1,0 +1,20 @@
+-- `first_read` meets its contract. Assumes nothing.
+use borrow.Author.Needs.{needs}
+use Rattle.client.proofs.HearLaws.{read-found, read-counted}
+use Rattle.client.proofs.hear.first_read.Statement.{statement}
+use Rattle.client.proofs.hear.first_read.Tie as tie
+
+end-requires : tie.Need-end-requires
+end-requires c κs = search needs
+
+returns : tie.Need-returns
+returns c = let a = c .before .before .before .args in read-found (a .plan) (a .i) (a .j) (a .c) (a .heard) _ (c .before .before .before .pre .1) (a .best) _ (c .end .ensures) (c .before .if1 .taken)
+
+count-requires : tie.Need-count-requires
+count-requires c κs = search needs
+
+returns-2 : tie.Need-returns-2
+returns-2 c = let a = c .before .before .before .args in read-counted (a .plan) (a .i) (a .j) (a .c) (a .heard) _ (c .before .before .before .pre .1) (a .best) _ (c .count .ensures) (c .before .if1 .left)
+
+pub first-read-spec : {M : Type 1} → statement M
+first-read-spec = tie.close (tie.spec end-requires returns count-requires returns-2)

@@ -1,0 +1,152 @@
+// A client begins an operation, sends a request, or leaves.
+use cabinet::Entry;
+use heard::Heard;
+use parts::Body;
+use parts::Change;
+use parts::Client;
+use parts::Decision;
+use parts::Held;
+use parts::Message;
+use parts::Outcome;
+use parts::Refusal;
+use parts::Slot;
+use parts::Work;
+ghost use mathlib.Core.Path.{_≡_};
+ghost use Prim.Native.Nat.{_≤_};
+ghost use Rattle.client.specs.Begin.{standingOf, partOf, beginsOf, requestBody, requestSlot, sendsOf, leaving, leavesOf};
+
+// What the checks 4, 5 and 6 ask of a client.
+pub enum Standing {
+    Free,
+    Away,
+    Busy,
+}
+
+// So many slots a run has; the number stands for none of them.
+pub const SLOTS: u8 = 64;
+
+fn stands(w: Work) -> Standing
+    ensures { λ r. ⌜ r ≡ standingOf w ⌝ }
+{
+    match w {
+        Work::Idle => Standing::Free,
+        Work::Gone => Standing::Away,
+        Work::FirstWrite(_) => Standing::Busy,
+        Work::FirstRead => Standing::Busy,
+        Work::SecondWrite => Standing::Busy,
+        Work::SecondRead => Standing::Busy,
+    }
+}
+
+pub fn part(w: Work) -> u8
+    ensures { λ r. ⌜ r ≡ partOf w ⌝ }
+{
+    match w {
+        Work::Idle => 0,
+        Work::Gone => 0,
+        Work::FirstWrite(_) => 1,
+        Work::FirstRead => 1,
+        Work::SecondWrite => 2,
+        Work::SecondRead => 2,
+    }
+}
+
+pub fn begins(i: u8, c: Client, w: Work) -> Decision
+    requires { ⌜ c .operation ≤ 1000000 ⌝ }
+    ensures { λ r. ⌜ r ≡ beginsOf i c w ⌝ }
+{
+    let now = c.work;
+    match stands(now) {
+        Standing::Free => Decision::Yes(
+            Outcome::Begun,
+            Change::OfClient(
+                i,
+                Client {
+                    operation: c.operation + 1,
+                    work: w,
+                    heard: Heard::none(),
+                    best: Entry::FACTORY,
+                },
+            ),
+        ),
+        Standing::Away => Decision::No(Refusal::HasLeft),
+        Standing::Busy => Decision::No(Refusal::NotIdle),
+    }
+}
+
+fn request_body(w: Work, best: Entry) -> Body
+    ensures { λ r. ⌜ r ≡ requestBody w best ⌝ }
+{
+    match w {
+        Work::Idle => Body::Acknowledge,
+        Work::Gone => Body::Acknowledge,
+        Work::FirstWrite(_) => Body::AskStamp,
+        Work::FirstRead => Body::AskEntry,
+        Work::SecondWrite => Body::Offer(best),
+        Work::SecondRead => Body::Offer(best),
+    }
+}
+
+fn request(i: u8, k: u8, c: Client) -> Slot
+    ensures { λ r. ⌜ r ≡ requestSlot i k c ⌝ }
+{
+    let w = c.work;
+    let best = c.best;
+    Slot {
+        held: Held::Request(Message {
+            operation: c.operation,
+            client: i,
+            part: part(w),
+            cabinet: k,
+            body: request_body(w, best),
+        }),
+    }
+}
+
+pub fn sends(i: u8, k: u8, c: Client, free: u8) -> Decision
+    ensures { λ r. ⌜ r ≡ sendsOf i k c free ⌝ }
+{
+    let now = c.work;
+    match stands(now) {
+        Standing::Free => Decision::No(Refusal::IsIdle),
+        Standing::Away => Decision::No(Refusal::HasLeft),
+        Standing::Busy => {
+            if SLOTS <= free {
+                Decision::No(Refusal::Full)
+            } else {
+                Decision::Yes(
+                    Outcome::Sent(free + 1),
+                    Change::OfSlot(free, request(i, k, c)),
+                )
+            }
+        }
+    }
+}
+
+fn leave(i: u8, c: Client) -> Decision
+    ensures { λ r. ⌜ r ≡ leaving i c ⌝ }
+{
+    Decision::Yes(
+        Outcome::Left,
+        Change::OfClient(
+            i,
+            Client {
+                operation: c.operation,
+                work: Work::Gone,
+                heard: Heard::none(),
+                best: Entry::FACTORY,
+            },
+        ),
+    )
+}
+
+pub fn leaves(i: u8, c: Client) -> Decision
+    ensures { λ r. ⌜ r ≡ leavesOf i c ⌝ }
+{
+    let now = c.work;
+    match stands(now) {
+        Standing::Free => leave(i, c),
+        Standing::Away => Decision::No(Refusal::HasLeft),
+        Standing::Busy => leave(i, c),
+    }
+}

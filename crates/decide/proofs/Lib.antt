@@ -1,0 +1,3 @@
+pub mod AdmitLaws
+pub mod CabinetsLaws
+pub mod DecideLaws

@@ -1,0 +1,4 @@
+pub mod AllLaws
+pub mod DamageLaws
+pub mod MessageLaws
+pub mod ScanLaws

@@ -1,0 +1,18 @@
+-- Each public contract decides: any two results that it allows for the same arguments are equal, the answer and every part of the next
+-- run. `Post` is the contract as the checker reads it in src/, so a weaker contract is refused here. Assumes nothing.
+use mathlib.Core.Path.{_≡_, sym, _∙_}
+use mathlib.Core.Bool.{Bool}
+use Rattle.run.specs.declared.Started.{Started}
+use Rattle.run.specs.declared.Stepped.{Stepped}
+use Rattle.run.proofs.fresh.start.Reads as start
+use Rattle.run.proofs.guarded.undamaged.Reads as undamaged
+use Rattle.run.proofs.steps.take.Reads as take
+
+pub start-decides : (κs : _) (a : _) (x y : Started) (s s′ : _) → start.Post κs a x s → start.Post κs a y s′ → x ≡ y
+start-decides κs a x y s s′ p q = p ∙ sym q
+
+pub undamaged-decides : (κs : _) (a : _) (x y : Bool) (s s′ : _) → undamaged.Post κs a x s → undamaged.Post κs a y s′ → x ≡ y
+undamaged-decides κs a x y s s′ p q = p ∙ sym q
+
+pub take-decides : (κs : _) (a : _) (x y : Stepped) (s s′ : _) → take.Post κs a x s → take.Post κs a y s′ → x ≡ y
+take-decides κs a x y s s′ p q = p ∙ sym q
