@@ -1,0 +1,183 @@
+-- The rehearsal as a machine that is fed bytes and says bytes: its state, one byte, several, and the input's end.
+use Prim.Native.Nat.{ℕ, _+_, _≤_}
+use mathlib.Core.Bool.{Bool, true, false, cond}
+use mathlib.Core.List.{List, [], _∷_, _++_}
+use mathlib.Core.Path.{_≡_}
+use lib.Dec.{eqb, leb, ltb}
+use lib.ListN.{length, take}
+use Rattle.plan.specs.declared.Planned.{Planned}
+use Rattle.plan.specs.declared.Planned.the-variants.{OutOfRange, TooSmall, Accepted}
+use Rattle.run.specs.declared.Run.{Run}
+use Rattle.run.specs.Start.{startOf}
+use Rattle.text.specs.Rows.{rowOf, isHeader}
+use Rattle.text.specs.declared.row.Row.{Row}
+use Rattle.text.specs.declared.row.Row.the-variants.{Other, Plan, Step}
+use Rattle.print.specs.Put.{put}
+use Rattle.print.specs.Rows.{planText, refusalText, noHeaderText, headText, room}
+use Rattle.rows.specs.declared.Fed.{Fed}
+use Rattle.rows.specs.declared.Kept.{Kept}
+use Rattle.rows.specs.declared.Phase.{Phase}
+use Rattle.rows.specs.declared.Phase.the-variants.{Header, Planning, Running, Ended}
+use Rattle.rows.specs.Rehearsal.{unended, answerText, runAfter}
+
+-- the bytes of a row so far: at most 65, which is a row and a CR, or more than that
+pub data Held : Type 0 where
+  Line : List ℕ → Held
+  Over : Held
+
+pub record Mach : Type 0 where
+  pub held : Held
+  pub phase : Phase
+  pub row : ℕ
+  pub run : Run
+
+-- ---- a row
+
+-- a row at its LF
+abbrev pub short : Held → Held
+short (Line l) = Line (unended l)
+short Over = Over
+
+abbrev pub pickHeld : Bool → List ℕ → Held
+pickHeld true l = Over
+pickHeld false l = Line l
+
+abbrev pub rowIn : Held → Row
+rowIn (Line l) = rowOf l
+rowIn Over = Other
+
+abbrev pub headIn : Held → Bool
+headIn (Line l) = isHeader l
+headIn Over = false
+
+abbrev pub startPhase : Planned → Phase
+startPhase OutOfRange = Ended
+startPhase TooSmall = Ended
+startPhase (Accepted p) = Running
+
+abbrev pub planPhase : Row → Phase
+planPhase Other = Ended
+planPhase (Plan n k r b) = startPhase (startOf n k r b .planned)
+planPhase (Step s) = Ended
+
+abbrev pub planRun : Run → Row → Run
+planRun run Other = run
+planRun run (Plan n k r b) = startOf n k r b .run
+planRun run (Step s) = run
+
+abbrev pub planSay : ℕ → Row → List ℕ
+planSay row Other = refusalText row
+planSay row (Plan n k r b) = planText row (startOf n k r b .planned)
+planSay row (Step s) = refusalText row
+
+-- after a row: the phase, the number of the next row, the run, and what is said
+unfoldable pub nextPhase : Phase → Held → Phase
+nextPhase Header h = cond (headIn h) Planning Ended
+nextPhase Planning h = planPhase (rowIn h)
+nextPhase Running h = Running
+nextPhase Ended h = Ended
+
+unfoldable pub nextRow : Phase → ℕ → ℕ
+nextRow Header n = n
+nextRow Planning n = n + 1
+nextRow Running n = n + 1
+nextRow Ended n = n
+
+unfoldable pub nextRun : Phase → Run → Held → Run
+nextRun Header run h = run
+nextRun Planning run h = planRun run (rowIn h)
+nextRun Running run h = runAfter run (rowIn h)
+nextRun Ended run h = run
+
+unfoldable pub sayLine : Phase → ℕ → Run → Held → List ℕ
+sayLine Header n run h = headText ++ cond (headIn h) [] noHeaderText
+sayLine Planning n run h = planSay n (rowIn h)
+sayLine Running n run h = answerText n run (rowIn h)
+sayLine Ended n run h = []
+
+-- ---- bytes
+
+unfoldable pub push : Held → ℕ → Held
+push (Line l) b = cond (ltb (length l) 65) (Line (l ++ (b ∷ []))) Over
+push Over b = Over
+
+-- the state after a row
+unfoldable pub ended : Mach → Mach
+ended m =
+    record {
+      held = Line [];
+      phase = nextPhase (m .phase) (short (m .held));
+      row = nextRow (m .phase) (m .row);
+      run = nextRun (m .phase) (m .run) (short (m .held));
+    }
+
+-- one byte
+unfoldable pub stepM : Mach → ℕ → Mach
+stepM m b = cond (eqb b 10) (ended m) (record { held = push (m .held) b; phase = m .phase; row = m .row; run = m .run })
+
+unfoldable pub sayM : Mach → ℕ → List ℕ
+sayM m b = cond (eqb b 10) (sayLine (m .phase) (m .row) (m .run) (short (m .held))) []
+
+-- several
+unfoldable pub runM : Mach → List ℕ → Mach
+runM m [] = m
+runM m (b ∷ l) = runM (stepM m b) l
+
+unfoldable pub sayAll : Mach → List ℕ → List ℕ
+sayAll m [] = []
+sayAll m (b ∷ l) = sayM m b ++ sayAll (stepM m b) l
+
+-- the input's end: a row that has no LF, or an input with no byte
+unfoldable pub endBy : Phase → ℕ → Run → Held → List ℕ
+endBy Header n run h = sayLine Header n run h
+endBy Planning n run (Line []) = []
+endBy Planning n run (Line (b ∷ l)) = sayLine Planning n run (Line (b ∷ l))
+endBy Planning n run Over = sayLine Planning n run Over
+endBy Running n run (Line []) = []
+endBy Running n run (Line (b ∷ l)) = sayLine Running n run (Line (b ∷ l))
+endBy Running n run Over = sayLine Running n run Over
+endBy Ended n run h = []
+
+abbrev pub endText : Mach → List ℕ
+endText m = endBy (m .phase) (m .row) (m .run) (m .held)
+
+-- what is said of the rest of an input
+unfoldable pub textFrom : Mach → List ℕ → List ℕ
+textFrom m [] = endText m
+textFrom m (b ∷ l) = sayM m b ++ textFrom (stepM m b) l
+
+-- the run is none that is used: a plan row makes its own
+abbrev pub start : Mach
+start = record { held = Line []; phase = Header; row = 1; run = startOf 2 0 0 0 .run }
+
+-- an input in parts, and what is said part by part and at the end
+abbrev pub joined : List (List ℕ) → List ℕ
+joined [] = []
+joined (c ∷ cs) = c ++ joined cs
+
+abbrev pub saidBy : Mach → List (List ℕ) → List ℕ
+saidBy m [] = endText m
+saidBy m (c ∷ cs) = sayAll m c ++ saidBy (runM m c) cs
+
+-- ---- what the code keeps
+
+-- 66 bytes stand for more than 65
+unfoldable pub heldOf : ℕ → List ℕ → Held
+heldOf n line = cond (leb n 65) (Line (take n line)) Over
+
+abbrev pub machOf : Kept → List ℕ → Run → Mach
+machOf k line run = record { held = heldOf (k .len) line; phase = k .phase; row = k .row; run = run }
+
+abbrev pub startFed : Fed
+startFed = record { kept = record { len = 0; at = 0; phase = Header; row = 1 }; run = startOf 2 0 0 0 .run }
+
+-- a row in phase p is answered: the buffer, d before, is e after
+abbrev pub Acted : Phase → Kept → Run → Held → List ℕ → List ℕ → Fed → Type 0
+Acted p k run h d e r =
+    (r .kept .len ≡ 0)
+    × (r .kept .phase ≡ nextPhase p h)
+    × (r .kept .row ≡ nextRow p (k .row))
+    × (r .run ≡ nextRun p run h)
+    × (e ≡ put d (k .at) (sayLine p (k .row) run h))
+    × (r .kept .at ≡ k .at + length (sayLine p (k .row) run h))
+    × (r .kept .at ≤ k .at + room)

@@ -1,0 +1,82 @@
+-- `stream::all_turns` meets its contract. The loop's invariant: the buffer is empty, and the rows of the reads that are left can be counted. Assumes nothing.
+use Prim.Native.Nat.{_+_, _*_, _^_, _<_, _≤_}
+use borrow.Author.Needs.{needs}
+use lib.ListN.{length}
+use mathlib.Core.Path.{_≡_, ap}
+use native.Mathlib.Omega.{arith}
+use Rattle.rows.specs.declared.Fed.{Fed}
+use Rattle.stream.proofs.all_turns.Statement.{statement}
+use Rattle.stream.proofs.all_turns.Tie as tie
+
+abbrev Inv-loop : tie.InvT-loop
+Inv-loop fd part₀ line₀ out₀ kept₀ run₀ more₀ sound₀ left₀ part line out kept run more sound left = (kept .at ≡ 0) × (kept .row + 4096 * left < 2 ^ 60) × (length part ≡ length part₀) × (length out ≡ length out₀) × (length part₀ ≤ 4096) × (length out₀ ≡ 282693)
+
+abbrev μ-loop : tie.MeasureT-loop
+μ-loop fd part₀ line₀ out₀ kept₀ run₀ more₀ sound₀ left₀ part line out kept run more sound left = left
+
+fresh-requires : tie.Need-fresh-requires Inv-loop μ-loop
+fresh-requires c κs = search needs
+
+loop-holds : tie.Need-loop-holds Inv-loop μ-loop
+loop-holds c = omega (arith, ap (λ (x : Fed). x .kept .at) (c .before .before .fresh .ensures), ap (λ (x : Fed). x .kept .row) (c .before .before .fresh .ensures))
+
+one-turn-requires : tie.Need-one-turn-requires Inv-loop μ-loop
+one-turn-requires c κs = omega arith
+
+sub-left : tie.Need-sub-left Inv-loop μ-loop
+sub-left c = omega arith
+
+loop-less : tie.Need-loop-less Inv-loop μ-loop
+loop-less c = omega arith
+
+loop-again : tie.Need-loop-again Inv-loop μ-loop
+loop-again c = omega arith
+
+same-length : tie.Need-same-length Inv-loop μ-loop
+same-length c = omega arith
+
+same-length-2 : tie.Need-same-length-2 Inv-loop μ-loop
+same-length-2 c = omega arith
+
+returns : tie.Need-returns Inv-loop μ-loop
+returns c = omega arith
+
+same-length-3 : tie.Need-same-length-3 Inv-loop μ-loop
+same-length-3 c = omega arith
+
+same-length-4 : tie.Need-same-length-4 Inv-loop μ-loop
+same-length-4 c = omega arith
+
+returns-2 : tie.Need-returns-2 Inv-loop μ-loop
+returns-2 c = omega arith
+
+same-length-5 : tie.Need-same-length-5 Inv-loop μ-loop
+same-length-5 c = omega arith
+
+same-length-6 : tie.Need-same-length-6 Inv-loop μ-loop
+same-length-6 c = omega arith
+
+returns-3 : tie.Need-returns-3 Inv-loop μ-loop
+returns-3 c = omega arith
+
+pub all-turns-spec : {M : Type 1} → statement M
+all-turns-spec =
+    tie.close
+    (tie.spec
+    Inv-loop
+    μ-loop
+    fresh-requires
+    loop-holds
+    one-turn-requires
+    sub-left
+    loop-less
+    loop-again
+    same-length
+    same-length-2
+    returns
+    same-length-3
+    same-length-4
+    returns-2
+    same-length-5
+    same-length-6
+    returns-3)

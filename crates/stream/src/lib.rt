@@ -1,0 +1,120 @@
+// The rehearsal of what a descriptor gives, on standard output: read, feed, write, in parts, so that memory does not grow with the input.
+use libc::STDOUT_FILENO;
+use rows::Kept;
+use rows::Phase;
+use rows::feed;
+use rows::finish;
+use rows::fresh;
+use run::Run;
+ghost use mathlib.Core.Path.{_≡_};
+ghost use Prim.Native.Nat.{_+_, _*_, _≤_, _<_, _^_};
+ghost use lib.ListN.{length};
+
+// What is kept, whether there is more to read, and whether the writes went through.
+pub struct Turn {
+    pub more: bool,
+    pub sound: bool,
+    pub kept: Kept,
+    pub run: Run,
+}
+
+// After answer 13 and a refused plan nothing more is read.
+fn goes_on(p: Phase) -> bool {
+    match p {
+        Phase::Header => true,
+        Phase::Planning => true,
+        Phase::Running => true,
+        Phase::Ended => false,
+    }
+}
+
+// One read of at most 4,096 bytes, and one write of all that is said of them. A read that fails ends the input; a write that fails ends the program.
+fn one_turn(
+    fd: i32,
+    part: &mut [u8],
+    line: &mut [u8; 65],
+    out: &mut [u8],
+    kept: Kept,
+    run: Run,
+) -> Turn
+    requires { ⌜ length (now part) ≤ 4096 ⌝ }
+    requires { ⌜ length (now out) ≡ 282693 ⌝ }
+    requires { ⌜ kept .at ≡ 0 ⌝ }
+    requires { ⌜ kept .row + 4096 < 2 ^ 64 ⌝ }
+    ensures { λ r. ⌜ (r .kept .at ≡ 0) × (r .kept .row ≤ kept .row + 4096) ⌝ }
+{
+    let got = libc::read(fd, part);
+    if got <= 0 {
+        return Turn {
+            more: false,
+            sound: true,
+            kept: kept,
+            run: run,
+        };
+    }
+    let n = io::count(got, part);
+    let f = feed(&part[..n], line, out, kept, run);
+    let k = f.kept;
+    let next = f.run;
+    let at = k.at;
+    let p = k.phase;
+    let row = k.row;
+    let len = k.len;
+    let sound = io::write_all(STDOUT_FILENO, &out[..at]);
+    let more = goes_on(p);
+    Turn {
+        more: more,
+        sound: sound,
+        kept: Kept {
+            len: len,
+            at: 0,
+            phase: p,
+            row: row,
+        },
+        run: next,
+    }
+}
+
+// Nothing says that an input ends, so the loop counts its reads down, from a number that no run uses up.
+fn all_turns(fd: i32, part: &mut [u8], line: &mut [u8; 65], out: &mut [u8]) -> Turn
+    requires { ⌜ length (now part) ≤ 4096 ⌝ }
+    requires { ⌜ length (now out) ≡ 282693 ⌝ }
+    ensures { λ r. ⌜ (r .kept .at ≡ 0) × (r .kept .row + 1 < 2 ^ 64) ⌝ }
+{
+    let f = fresh();
+    let mut kept = f.kept;
+    let mut run = f.run;
+    let mut more = true;
+    let mut sound = true;
+    let mut left: u64 = 1000000000000;
+    while left > 0 && more && sound {
+        let t = one_turn(fd, part, line, out, kept, run);
+        let k = t.kept;
+        let r = t.run;
+        kept = k;
+        run = r;
+        more = t.more;
+        sound = t.sound;
+        left -= 1;
+    }
+    Turn {
+        more: more,
+        sound: sound,
+        kept: kept,
+        run: run,
+    }
+}
+
+// All that a descriptor gives. The buffer has 69 bytes for each byte of a part, and 69 more: see `rows::feed`.
+pub fn rehearse(fd: i32) {
+    let mut part = [0u8; 4096];
+    let mut out = [0u8; 282693];
+    let mut line = [0u8; 65];
+    let t = all_turns(fd, &mut part, &mut line, &mut out);
+    if t.sound {
+        let k = t.kept;
+        let r = t.run;
+        let end = finish(&line, &mut out, k, r);
+        io::write_all(STDOUT_FILENO, &out[..end]);
+    }
+}

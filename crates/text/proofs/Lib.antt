@@ -1,0 +1,9 @@
+pub mod BytesLaws
+pub mod Decides
+pub mod FieldLaws
+pub mod NumberLaws
+pub mod PairLaws
+pub mod PlanLaws
+pub mod ReadingLaws
+pub mod StepLaws
+pub mod WordLaws
