@@ -6,6 +6,8 @@ mod steps;
 
 use cabinet::Cabinet;
 pub use fresh::start;
+pub use gather::Aim;
+pub use gather::aim_of;
 pub use guarded::undamaged;
 use parts::Answer;
 use parts::Client;

@@ -1,0 +1,5 @@
+pub mod Decides
+pub mod DeskLaws
+pub mod TableLaws
+pub mod Truth
+pub mod ViewLaws

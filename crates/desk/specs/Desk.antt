@@ -1,0 +1,53 @@
+-- A step over a lent table, in the words of document 01, "The desk's table and the firmware": the step of the run that has these records.
+use Prim.Native.Nat.{ℕ, _-_}
+use mathlib.Core.Bool.{cond}
+use mathlib.Core.List.{List, _++_}
+use lib.Dec.{eqb}
+use lib.ListN.{length, take, drop, replicate}
+use Rattle.cabinet.specs.declared.record.Cabinet.{Cabinet}
+use Rattle.cabinet.specs.Cabinets.{freshCabinet}
+use Rattle.parts.specs.declared.step.Step.{Step}
+use Rattle.parts.specs.Answers.{answerNumber}
+use Rattle.run.specs.declared.Run.{Run}
+use Rattle.run.specs.declared.Stepped.{Stepped}
+use Rattle.run.specs.Steps.{stepOf}
+use Rattle.desk.specs.declared.Lent.{Lent}
+use Rattle.desk.specs.declared.Lent.the-variants.{WrongLength, Answered}
+use Rattle.desk.specs.declared.Local.{Local}
+use Rattle.desk.specs.declared.Served.{Served}
+
+-- the number that comes back: 14, "a lent cabinet table hasn't n records", or that of the step
+abbrev pub lentNumber : Lent → ℕ
+lentNumber WrongLength = 14
+lentNumber (Answered a) = answerNumber a
+
+-- the run with other cabinets
+unfoldable pub withCabinets : Run → List Cabinet → Run
+withCabinets run l = record { plan = run .plan; steps = run .steps; cabinets = l; clients = run .clients; slots = run .slots }
+
+-- "The lent records then stand for the run's own"; the places past them are those of a fresh cabinet, so that the run's own are not read
+unfoldable pub withRecords : Run → List Cabinet → Run
+withRecords run table = withCabinets run (table ++ replicate (9 - length table) freshCabinet)
+
+-- the step of the run that has these records
+unfoldable pub viewed : Run → List Cabinet → Step → Stepped
+viewed run table s = stepOf (withRecords run table) s
+
+-- "the run's own are neither read nor changed"
+unfoldable pub answered : Run → Stepped → Served
+answered run z = record { answer = Answered (z .answer); run = withCabinets (z .run) (run .cabinets) }
+
+-- "Every refusal changes nothing"
+abbrev pub wrongLength : Run → Served
+wrongLength run = record { answer = WrongLength; run = run }
+
+-- answer 14 comes before all others: the table has not n records, "n as the run says"
+unfoldable pub lentOf : Run → List Cabinet → Step → Served
+lentOf run table s = cond (eqb (length table) (run .plan .n)) (answered run (viewed run table s)) (wrongLength run)
+
+unfoldable pub tableOf : Run → List Cabinet → Step → List Cabinet
+tableOf run table s = cond (eqb (length table) (run .plan .n)) (take (length table) (viewed run table s .run .cabinets)) table
+
+-- the first `len` records of an array are lent, and the others stay as they are
+unfoldable pub localOf : Run → List Cabinet → ℕ → Step → Local
+localOf run table len s = record { served = lentOf run (take len table) s; table = tableOf run (take len table) s ++ drop len table }
