@@ -1,6 +1,6 @@
 -- What the entrance over a lent table promises: it answers as a step of the run that has these records, it changes at most the record that
 -- the step names, a refusal changes nothing, and the run's own records never matter. Assumes nothing.
-use Prim.Native.Nat.{ℕ, zero, suc, _+_, _-_, _≤_, _<_}
+use Prim.Native.Nat.{ℕ, zero, suc, _+_, _-_, _≤_}
 use mathlib.Core.Bool.{Bool, true, false, cond, _&&_}
 use mathlib.Core.List.{List, [], _∷_, _++_}
 use mathlib.Core.Logic.{_≢_}
@@ -9,11 +9,10 @@ use native.Mathlib.Omega.{arith}
 use lib.Dec.{eqb, ltb}
 use lib.ListN.{length, getD, take, replicate, length-append, List·getD-append, List·getD-eq-default}
 use lib.Seq.{getD-take, length-take-le, take-append-seam}
-use borrow.Author.Tests.{eqb-true, eq-eqb, ne-eqb, ltb-true, ltb-false, lt-ltb, le-ltb}
+use borrow.Author.Tests.{eqb-true, ne-eqb, ltb-true, ltb-false, lt-ltb, le-ltb}
 use Rattle.cabinet.specs.declared.record.Cabinet.{Cabinet}
 use Rattle.cabinet.specs.Cabinets.{freshCabinet}
 use Rattle.cabinet.specs.Entries.{isFactory}
-use Rattle.parts.specs.declared.answer.Answer.{Answer}
 use Rattle.parts.specs.declared.answer.Answer.the-variants.{Refused}
 use Rattle.parts.specs.declared.answer.Refusal.{Refusal}
 use Rattle.parts.specs.declared.answer.Refusal.the-variants.{Damaged}
@@ -23,7 +22,6 @@ use Rattle.plan.specs.declared.Plan.{Plan}
 use Rattle.guard.specs.All.{allFrom}
 use Rattle.guard.specs.Damage.{recordSound, isFresh, cabinetSound}
 use Rattle.run.specs.declared.Run.{Run}
-use Rattle.run.specs.declared.Stepped.{Stepped}
 use Rattle.run.specs.Steps.{slotAt, stepOf}
 use Rattle.run.specs.Undamaged.{restSound, undamaged}
 use Rattle.run.proofs.FrameLaws.{step-cabinet, step-damaged, step-refused, step-lengths}

@@ -34,7 +34,6 @@ use Rattle.run.proofs.MeetLaws.{askedOf, metOf, metAt}
 use Rattle.desk.specs.declared.Local.{Local}
 use Rattle.desk.specs.declared.Made.{Made}
 use Rattle.desk.specs.declared.Nine.{Nine}
-use Rattle.desk.specs.declared.Served.{Served}
 use Rattle.desk.specs.Desk.{withCabinets, withRecords, viewed, answered, wrongLength, lentOf, tableOf, localOf}
 use Rattle.desk.specs.View.{noneLent, lentAt, aimedBy, aimedAt, placeOf, madeBy, madeOf, servedOf}
 use Rattle.desk.proofs.TableLaws.{put-in, put-read}

@@ -14,7 +14,6 @@ use Rattle.run.specs.declared.Run.{Run}
 use Rattle.run.specs.declared.Stepped.{Stepped}
 use Rattle.run.specs.Gather.{aimOf}
 use Rattle.run.specs.Steps.{slotAt, stepOf}
-use Rattle.desk.specs.declared.Lent.the-variants.{Answered}
 use Rattle.desk.specs.declared.Made.{Made}
 use Rattle.desk.specs.declared.Nine.{Nine}
 use Rattle.desk.specs.declared.Served.{Served}

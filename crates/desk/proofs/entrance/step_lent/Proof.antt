@@ -7,7 +7,7 @@ use Prim.Native.Nat.{ℕ, suc, zero-le, _+_, _-_, _*_, _<_, _≤_, _^_}
 use native.Mathlib.Nat.{lt-of-le-of-lt, lt-trans}
 use native.Mathlib.Numerals.{add-one, add-one-le, add-one-dec}
 use native.Mathlib.Omega.{arith}
-use mathlib.Core.Bool.{Bool, true, false, not}
+use mathlib.Core.Bool.{Bool, true, false}
 use mathlib.Core.List.{[], _∷_, List}
 use mathlib.Core.WellFounded.{WellFounded, InvImage·wf}
 use lib.WfN.{Nat·lt-wfRel}

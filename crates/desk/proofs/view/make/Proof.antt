@@ -1,6 +1,5 @@
 -- `make` meets its contract. Assumes nothing.
 use borrow.Author.Needs.{needs}
-use mathlib.Core.Path.{ap}
 use Rattle.desk.proofs.view.make.Statement.{statement}
 use Rattle.desk.proofs.view.make.Tie as tie
 use Rattle.desk.specs.Desk.{withCabinets, answered}

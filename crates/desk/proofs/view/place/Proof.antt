@@ -2,9 +2,9 @@
 use Prim.Native.Nat.{ℕ, _≤_, _<_}
 use borrow.Author.Needs.{needs}
 use mathlib.Core.Path.{_∙_, subst}
-use mathlib.Core.Path.{sym, ap, _∙_, subst}
+use mathlib.Core.Path.{_∙_, subst}
 use native.Mathlib.Omega.{arith}
-use Rattle.desk.proofs.ViewLaws.{slot-in, aimed, place-near, place-far, place-low}
+use Rattle.desk.proofs.ViewLaws.{slot-in, aimed, place-near, place-far}
 use Rattle.desk.proofs.ViewLaws.{slot-in, aimed, place-near, place-far}
 use Rattle.desk.proofs.view.place.Statement.{statement}
 use Rattle.desk.proofs.view.place.Tie as tie
