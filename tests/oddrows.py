@@ -1,6 +1,6 @@
 """Odd rows: rows of a wrong form, headers and plans that are refused, line ends."""
 
-from picture import profile
+from guess import profile
 
 HEADER = b'kind,a,b,c,d'
 

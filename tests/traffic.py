@@ -1,6 +1,6 @@
-"""Traffic: step rows drawn by a weighted walk over a rough picture of a run."""
+"""Traffic: step rows drawn by a weighted walk over a rough guess at a run."""
 
-from picture import CLIENTS, SLOTS, Picture
+from guess import CLIENTS, SLOTS, Guess
 
 # What a phase of the walk is made of: moves of Walk with their weights.
 PHASES = {
@@ -25,11 +25,11 @@ class Walk:
 
     def __init__(self, rng, plan, phases, reckless=False):
         self.rng = rng
-        self.picture = Picture(plan)
+        self.guess = Guess(plan)
         self.plan = plan
         self.reckless = reckless
         self.decks = [self.deck(phase) for phase in phases]
-        stores = max(self.picture.stores, 1)
+        stores = max(self.guess.stores, 1)
         self.weak = [self.below(stores) + 1 for _ in range(max(plan[2], 1))]
         self.leaves = 8 if reckless else self.below(6)
         self.ahead = []  # rows that are to follow the last move at once
@@ -49,18 +49,18 @@ class Walk:
         return [getattr(self, move) for move, weight in weights.items() for _ in range(round(weight * 10))]
 
     def new_phase(self):
-        picture = self.picture
+        guess = self.guess
         self.now = self.pick(self.decks)
         self.left_in_phase = self.pick([15, 40, 80, 150, 300])
         crew = self.pick([2, 2, 3, 4, 6, 8])
         self.crew = [self.pick(CLIENTS) for _ in range(crew)]
-        self.reach = list(picture.cabinets)
+        self.reach = list(guess.cabinets)
         if self.chance(0.15):
             self.rng.shuffle(self.reach)
             self.reach = self.reach[:self.pick([1, 2, 3])]
         # Offers that reach few cabinets, and faults that strike just there, show what else is
         # covered up by the others.
-        anywhere = [self.pick(picture.cabinets) for _ in range(2)]
+        anywhere = [self.pick(guess.cabinets) for _ in range(2)]
         self.spots = self.pick([self.weak, self.weak, anywhere, [self.plan[0]]])  # the last has a store least often
         self.dawdlers = [client for client in self.crew if self.chance(0.4)]
 
@@ -76,13 +76,13 @@ class Walk:
             if row is not None:
                 return row
 
-    # The moves: a row, or None where the picture has no use for the move now.
+    # The moves: a row, or None where the guess has no use for the move now.
 
     def write(self):
         client = self.pick(self.crew)
-        if self.picture.part[client] != 0:
+        if self.guess.part[client] != 0:
             return None
-        self.picture.begin(client)
+        self.guess.begin(client)
         return f'write,{client},{self.reading()}'
 
     def reading(self):
@@ -91,24 +91,24 @@ class Walk:
 
     def read(self):
         client = self.pick(self.crew)
-        if self.picture.part[client] != 0:
+        if self.guess.part[client] != 0:
             return None
-        self.picture.begin(client)
+        self.guess.begin(client)
         return f'read,{client},,,'
 
     def open_client(self):
         client = self.pick(self.crew if self.chance(0.8) else CLIENTS)
-        return client if self.picture.part[client] in (1, 2) else None
+        return client if self.guess.part[client] in (1, 2) else None
 
     def send(self):
         """To a cabinet that is still to be heard."""
         client = self.open_client()
         if client is None:
             return None
-        second = self.picture.part[client] == 2
+        second = self.guess.part[client] == 2
         reach = self.spots if second and client in self.dawdlers else self.reach
-        wanted = [c for c in reach if c not in self.picture.heard[client] and c not in self.picture.down
-                  and (second or c not in self.picture.stale)]
+        wanted = [c for c in reach if c not in self.guess.heard[client] and c not in self.guess.down
+                  and (second or c not in self.guess.stale)]
         return self.sent(client, self.pick(wanted)) if wanted else None
 
     def send_again(self):
@@ -116,73 +116,73 @@ class Walk:
         client = self.open_client()
         if client is None:
             return None
-        return self.sent(client, self.pick(self.picture.cabinets if self.chance(0.3) else self.reach))
+        return self.sent(client, self.pick(self.guess.cabinets if self.chance(0.3) else self.reach))
 
     def send_idle(self):
         client = self.pick(CLIENTS)
-        if self.picture.part[client] in (1, 2):
+        if self.guess.part[client] in (1, 2):
             return None
-        return f'send,{client},{self.pick(self.picture.cabinets)},,'
+        return f'send,{client},{self.pick(self.guess.cabinets)},,'
 
     def sent(self, client, cabinet):
-        if len(self.picture.full) == SLOTS and self.chance(0.8):
+        if len(self.guess.full) == SLOTS and self.chance(0.8):
             return None
-        self.picture.send(client, cabinet)
+        self.guess.send(client, cabinet)
         return f'send,{client},{cabinet},,'
 
     def deliver(self):
-        picture = self.picture
-        if not picture.full:
+        guess = self.guess
+        if not guess.full:
             return None
         # The message last touched comes on at once, or some other overtakes it.
-        slot = picture.full[-1] if self.chance(0.4) else self.pick(picture.full)
-        picture.deliver(slot)
+        slot = guess.full[-1] if self.chance(0.4) else self.pick(guess.full)
+        guess.deliver(slot)
         return f'deliver,{slot + 1},,,'
 
     def lose(self):
-        if not self.picture.full:
+        if not self.guess.full:
             return None
-        slot = self.pick(self.picture.full)
-        self.picture.free(slot)
+        slot = self.pick(self.guess.full)
+        self.guess.free(slot)
         return f'lose,{slot + 1},,,'
 
     def may_go(self, cabinet):
         """Whether the line can go on when this cabinet is down or stale."""
-        picture = self.picture
-        gone = len(picture.down | picture.stale | {cabinet})
-        return self.reckless or self.chance(0.01) or len(picture.cabinets) - gone >= picture.quorum[1]
+        guess = self.guess
+        gone = len(guess.down | guess.stale | {cabinet})
+        return self.reckless or self.chance(0.01) or len(guess.cabinets) - gone >= guess.quorum[1]
 
     def struck(self):
-        return self.pick(self.spots if self.chance(0.5) else self.picture.cabinets)
+        return self.pick(self.spots if self.chance(0.5) else self.guess.cabinets)
 
     def stop(self):
         cabinet = self.struck()
-        if cabinet in self.picture.down or not self.may_go(cabinet):
+        if cabinet in self.guess.down or not self.may_go(cabinet):
             return None
-        self.picture.down.add(cabinet)
+        self.guess.down.add(cabinet)
         return f'stop,{cabinet},,,'
 
     def restart(self):
-        picture = self.picture
-        cabinet = self.pick(sorted(picture.down)) if picture.down and self.chance(0.8) else self.struck()
-        if picture.forgetful and cabinet not in picture.down and not self.may_go(cabinet):
+        guess = self.guess
+        cabinet = self.pick(sorted(guess.down)) if guess.down and self.chance(0.8) else self.struck()
+        if guess.forgetful and cabinet not in guess.down and not self.may_go(cabinet):
             return None
-        picture.restart(cabinet)
+        guess.restart(cabinet)
         return f'restart,{cabinet},,,'
 
     def roll_back(self):
-        picture = self.picture
-        if picture.forgetful and self.chance(0.9):
+        guess = self.guess
+        if guess.forgetful and self.chance(0.9):
             return None
-        cabinet = self.pick(self.weak if self.chance(0.75) else picture.cabinets)
+        cabinet = self.pick(self.weak if self.chance(0.75) else guess.cabinets)
         back = self.pick([1, 1, 1, 1, 2, 2, 3, 7, self.below(7) + 1])
         if back == 7 and self.chance(0.5):  # to the oldest version and past it
             self.ahead.append(f'rollback,{cabinet},1,,')
-        if cabinet in picture.down and self.chance(0.9):
+        if cabinet in guess.down and self.chance(0.9):
             # Up or still down, who knows: the row after it makes it sure.
             self.ahead.append(self.pick([f'restart,{cabinet},,,', f'stop,{cabinet},,,']))
             if self.ahead[-1].startswith('restart'):
-                picture.restart(cabinet)
+                guess.restart(cabinet)
         return f'rollback,{cabinet},{back},,'
 
     def leave(self):
@@ -190,17 +190,17 @@ class Walk:
             return None
         self.leaves -= 1
         client = self.pick(CLIENTS)
-        self.picture.part[client] = 3
+        self.guess.part[client] = 3
         return f'leave,{client},,,'
 
     def stray(self):
         """A row of the right form that is mostly refused."""
-        client, part = self.pick(CLIENTS), self.picture.part
+        client, part = self.pick(CLIENTS), self.guess.part
         row = self.pick([self.out_of_range, self.on_free_slot, self.on_down_cabinet])()
         if row is None and part[client] != 0:
             row = self.pick([f'write,{client},{self.reading()}', f'read,{client},,,'])
         elif row is None:
-            row = f'send,{client},{self.pick(self.picture.cabinets)},,'
+            row = f'send,{client},{self.pick(self.guess.cabinets)},,'
         if part[client] == 3 and self.chance(0.1):
             row = f'leave,{client},,,'
         return row
@@ -217,9 +217,9 @@ class Walk:
 
     def on_free_slot(self):
         slot = self.below(SLOTS)
-        if self.picture.slots[slot] is not None:
+        if self.guess.slots[slot] is not None:
             return None
         return f'{self.pick(["deliver", "lose"])},{slot + 1},,,'
 
     def on_down_cabinet(self):
-        return f'stop,{self.pick(sorted(self.picture.down))},,,' if self.picture.down else None
+        return f'stop,{self.pick(sorted(self.guess.down))},,,' if self.guess.down else None

@@ -8,7 +8,7 @@ use Rattle.heard.specs.Heard.{noneHeard}
 use Rattle.parts.specs.declared.answer.Change.the-variants.{OfClient, OfSlot}
 use Rattle.parts.specs.declared.answer.Decision.{Decision}
 use Rattle.parts.specs.declared.answer.Decision.the-variants.{No, Yes}
-use Rattle.parts.specs.declared.answer.Outcome.the-variants.{Begun, Sent, Left}
+use Rattle.parts.specs.declared.answer.Outcome.the-variants.{Begun, Sent}
 use Rattle.parts.specs.declared.answer.Refusal.the-variants.{HasLeft, NotIdle, IsIdle, Full}
 use Rattle.parts.specs.declared.client.Client.{Client}
 use Rattle.parts.specs.declared.client.Work.{Work}
@@ -16,14 +16,17 @@ use Rattle.parts.specs.declared.client.Work.the-variants.{Gone}
 use Rattle.parts.specs.declared.message.Body.{Body}
 use Rattle.parts.specs.declared.message.Held.the-variants.{Request}
 use Rattle.parts.specs.declared.message.Slot.{Slot}
+use Rattle.client.specs.declared.begin.Asking.{Asking}
+use Rattle.client.specs.declared.begin.Asking.the-variants.{Puts}
 use Rattle.client.specs.declared.begin.Standing.{Standing}
 use Rattle.client.specs.declared.begin.Standing.the-variants.{Free, Away, Busy}
-use Rattle.client.specs.Begin.{standingOf, partOf, beginsBy, beginsOf, requestBody, requestSlot, sendsBy, sendsOf, leaving, leavesBy, leavesOf}
+use Rattle.client.specs.Begin.{standingOf, partOf, beginsBy, beginsOf, requestBody, requestSlot, sendsBy, sendsOf, gone, leaving, leavesBy, leavesOf}
+use Rattle.client.specs.Small.{askingAs}
 
 -- a client that has left, with what it heard and held put away
-pub leave-is : (i : ℕ) (c : Client) (h : Heard) → h ≡ noneHeard
-    → Yes Left (OfClient i (record { operation = c .operation; work = Gone; heard = h; best = factoryEntry })) ≡ leaving i c
-leave-is i c h e = rw e
+pub gone-is : (c : Client) (h : Heard) → h ≡ noneHeard
+    → _≡_ {A = Client} (record { operation = c .operation; work = Gone; heard = h; best = factoryEntry }) (gone c)
+gone-is c h e = rw e
 
 pub request-is : (i k : ℕ) (c : Client) (part : ℕ) (body : Body) → part ≡ partOf (c .work) → body ≡ requestBody (c .work) (c .best)
     → _≡_ {A = Slot} (record { held = Request (record { operation = c .operation; client = i; part = part; cabinet = k; body = body }) }) (requestSlot i k c)
@@ -57,11 +60,9 @@ module _ (i : ℕ) (c : Client) (s : Standing) (es : s ≡ standingOf (c .work))
     pub send-away : s ≡ Away → No HasLeft ≡ sendsOf i k c free
     send-away g = send-at Away g
 
-    pub send-full : s ≡ Busy → 64 ≤ free → No Full ≡ sendsOf i k c free
-    send-full g h = rw (le-leb 64 free h) at (send-at Busy g)
-
-    pub send-sent : (t : Slot) → s ≡ Busy → free < 64 → t ≡ requestSlot i k c → Yes (Sent (free + 1)) (OfSlot free t) ≡ sendsOf i k c free
-    send-sent t g h e = rw e (rw (lt-leb 64 free h) at (send-at Busy g))
+    -- whatever slot is free, or none
+    pub send-busy : (t : Slot) → s ≡ Busy → t ≡ requestSlot i k c → askingAs free (Puts t) ≡ sendsOf i k c free
+    send-busy t g e = rw e (send-at Busy g)
 
   leave-at : (t : Standing) → s ≡ t → leavesBy t i c ≡ leavesOf i c
   unfolding leavesOf
@@ -75,3 +76,11 @@ module _ (i : ℕ) (c : Client) (s : Standing) (es : s ≡ standingOf (c .work))
 
   pub leave-busy : (d : Decision) → d ≡ leaving i c → s ≡ Busy → d ≡ leavesOf i c
   leave-busy d ed g = ed ∙ leave-at Busy g
+
+-- `d` is what the answer `a` stands for, which puts `t` into the free slot
+module _ (d : Decision) (free : ℕ) (a : Asking) (t : Slot) (ed : d ≡ askingAs free a) (g : a ≡ Puts t) where
+  pub asking-full : 64 ≤ free → No Full ≡ d
+  asking-full h = sym (rw (le-leb 64 free h) at (ed ∙ ap (askingAs free) g))
+
+  pub asking-sent : free < 64 → Yes (Sent (free + 1)) (OfSlot free t) ≡ d
+  asking-sent h = sym (rw (lt-leb 64 free h) at (ed ∙ ap (askingAs free) g))

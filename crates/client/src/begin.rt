@@ -12,8 +12,10 @@ use parts::Refusal;
 use parts::Slot;
 use parts::Work;
 ghost use mathlib.Core.Path.{_≡_};
-ghost use Prim.Native.Nat.{_≤_};
-ghost use Rattle.client.specs.Begin.{standingOf, partOf, beginsOf, requestBody, requestSlot, sendsOf, leaving, leavesOf};
+ghost use Prim.Native.Nat.{ℕ, _≤_};
+ghost use Rattle.parts.specs.declared.answer.Outcome.the-variants.{Begun, Left};
+ghost use Rattle.client.specs.Begin.{standingOf, partOf, beginsOf, requestBody, requestSlot, sendsOf, gone as Begin·gone, leavesOf};
+ghost use Rattle.client.specs.Small.{movedAs, askingAs};
 
 // What the checks 4, 5 and 6 ask of a client.
 pub enum Standing {
@@ -51,26 +53,42 @@ pub fn part(w: Work) -> u8
     }
 }
 
+// A client's own step without the place that it changes: a refusal, or the client as it is afterwards.
+pub enum Moved {
+    Not(Refusal),
+    To(Client),
+}
+
+// A send without the slot that it takes: a refusal, or what that slot then has.
+pub enum Asking {
+    Not(Refusal),
+    Puts(Slot),
+}
+
+pub fn opens(c: Client, w: Work) -> Moved
+    requires { ⌜ c .operation ≤ 1000000 ⌝ }
+    ensures { λ r. ⌜ ((i : ℕ) → beginsOf i c w ≡ movedAs Begun i r) ⌝ }
+{
+    let now = c.work;
+    match stands(now) {
+        Standing::Free => Moved::To(Client {
+            operation: c.operation + 1,
+            work: w,
+            heard: Heard::none(),
+            best: Entry::FACTORY,
+        }),
+        Standing::Away => Moved::Not(Refusal::HasLeft),
+        Standing::Busy => Moved::Not(Refusal::NotIdle),
+    }
+}
+
 pub fn begins(i: u8, c: Client, w: Work) -> Decision
     requires { ⌜ c .operation ≤ 1000000 ⌝ }
     ensures { λ r. ⌜ r ≡ beginsOf i c w ⌝ }
 {
-    let now = c.work;
-    match stands(now) {
-        Standing::Free => Decision::Yes(
-            Outcome::Begun,
-            Change::OfClient(
-                i,
-                Client {
-                    operation: c.operation + 1,
-                    work: w,
-                    heard: Heard::none(),
-                    best: Entry::FACTORY,
-                },
-            ),
-        ),
-        Standing::Away => Decision::No(Refusal::HasLeft),
-        Standing::Busy => Decision::No(Refusal::NotIdle),
+    match opens(c, w) {
+        Moved::Not(why) => Decision::No(why),
+        Moved::To(next) => Decision::Yes(Outcome::Begun, Change::OfClient(i, next)),
     }
 }
 
@@ -103,50 +121,59 @@ fn request(i: u8, k: u8, c: Client) -> Slot
     }
 }
 
-pub fn sends(i: u8, k: u8, c: Client, free: u8) -> Decision
-    ensures { λ r. ⌜ r ≡ sendsOf i k c free ⌝ }
+pub fn asks(i: u8, k: u8, c: Client) -> Asking
+    ensures { λ r. ⌜ ((free : ℕ) → sendsOf i k c free ≡ askingAs free r) ⌝ }
 {
     let now = c.work;
     match stands(now) {
-        Standing::Free => Decision::No(Refusal::IsIdle),
-        Standing::Away => Decision::No(Refusal::HasLeft),
-        Standing::Busy => {
+        Standing::Free => Asking::Not(Refusal::IsIdle),
+        Standing::Away => Asking::Not(Refusal::HasLeft),
+        Standing::Busy => Asking::Puts(request(i, k, c)),
+    }
+}
+
+pub fn sends(i: u8, k: u8, c: Client, free: u8) -> Decision
+    ensures { λ r. ⌜ r ≡ sendsOf i k c free ⌝ }
+{
+    match asks(i, k, c) {
+        Asking::Not(why) => Decision::No(why),
+        Asking::Puts(t) => {
             if SLOTS <= free {
                 Decision::No(Refusal::Full)
             } else {
-                Decision::Yes(
-                    Outcome::Sent(free + 1),
-                    Change::OfSlot(free, request(i, k, c)),
-                )
+                Decision::Yes(Outcome::Sent(free + 1), Change::OfSlot(free, t))
             }
         }
     }
 }
 
-fn leave(i: u8, c: Client) -> Decision
-    ensures { λ r. ⌜ r ≡ leaving i c ⌝ }
+fn gone(c: Client) -> Client
+    ensures { λ r. ⌜ r ≡ Begin·gone c ⌝ }
 {
-    Decision::Yes(
-        Outcome::Left,
-        Change::OfClient(
-            i,
-            Client {
-                operation: c.operation,
-                work: Work::Gone,
-                heard: Heard::none(),
-                best: Entry::FACTORY,
-            },
-        ),
-    )
+    Client {
+        operation: c.operation,
+        work: Work::Gone,
+        heard: Heard::none(),
+        best: Entry::FACTORY,
+    }
+}
+
+pub fn quits(c: Client) -> Moved
+    ensures { λ r. ⌜ ((i : ℕ) → leavesOf i c ≡ movedAs Left i r) ⌝ }
+{
+    let now = c.work;
+    match stands(now) {
+        Standing::Free => Moved::To(gone(c)),
+        Standing::Away => Moved::Not(Refusal::HasLeft),
+        Standing::Busy => Moved::To(gone(c)),
+    }
 }
 
 pub fn leaves(i: u8, c: Client) -> Decision
     ensures { λ r. ⌜ r ≡ leavesOf i c ⌝ }
 {
-    let now = c.work;
-    match stands(now) {
-        Standing::Free => leave(i, c),
-        Standing::Away => Decision::No(Refusal::HasLeft),
-        Standing::Busy => leave(i, c),
+    match quits(c) {
+        Moved::Not(why) => Decision::No(why),
+        Moved::To(next) => Decision::Yes(Outcome::Left, Change::OfClient(i, next)),
     }
 }

@@ -5,20 +5,16 @@ use cabinet::Reading;
 use cabinet::Stamp;
 use heard::Heard;
 use parts::Body;
-use parts::Change;
 use parts::Client;
-use parts::Decision;
 use parts::Ending;
-use parts::Held;
 use parts::Message;
-use parts::Outcome;
-use parts::Slot;
 use parts::Work;
 use plan::Plan;
 ghost use mathlib.Core.Path.{_≡_};
-ghost use Prim.Native.Nat.{_≤_, _<_};
+ghost use Prim.Native.Nat.{ℕ, _≤_, _<_};
 ghost use Rattle.heard.specs.Heard.{countOf};
-ghost use Rattle.client.specs.Hear.{toldStamp, toldEntry, toldTaken, toldBy, toldOf, bestOf, chosenBy, discarded, counted, ended, firstWrite, firstRead, second, hearsOf, toldCounter};
+ghost use Rattle.client.specs.Hear.{toldStamp, toldEntry, toldTaken, toldBy, toldOf, bestOf, counted, ended, firstWrite, firstRead, second, hearsOf, toldCounter};
+ghost use Rattle.client.specs.Small.{hearsAs};
 
 // What a reply says to the part that is open: the entry heard in a first part, or that the entry offered was taken or kept.
 pub enum Told {
@@ -95,10 +91,11 @@ fn awaited(c: Client, m: Message) -> Told
     let h = c.heard;
     if c.operation == m.operation {
         if begin::part(w) == m.part {
+            let told = told_by(w, b);
             if h.has(m.cabinet) {
                 return Told::Nothing;
             }
-            return told_by(w, b);
+            return told;
         }
     }
     Told::Nothing
@@ -116,67 +113,43 @@ fn best_of(heard: u8, best: Entry, e: Entry) -> Entry
     best
 }
 
-fn discard(j: u8) -> Decision
-    requires { ⌜ j < 64 ⌝ }
-    ensures { λ r. ⌜ r ≡ discarded j ⌝ }
-{
-    Decision::Yes(
-        Outcome::Discarded(j + 1),
-        Change::OfSlot(j, Slot { held: Held::Empty }),
-    )
+// What a reply does to its client, without the places that change: nothing, it is counted, or it ends the part.
+pub enum Hears {
+    Nothing,
+    Counts(Client),
+    Ends(Ending, Entry, Client),
 }
 
-fn count(i: u8, j: u8, c: Client, heard: Heard, best: Entry) -> Decision
-    requires { ⌜ j < 64 ⌝ }
-    ensures { λ r. ⌜ r ≡ counted i j c heard best ⌝ }
+fn count(c: Client, heard: Heard, best: Entry) -> Hears
+    ensures { λ r. ⌜ ((i j : ℕ) → counted i j c heard best ≡ hearsAs i j r) ⌝ }
 {
     let w = c.work;
-    Decision::Yes(
-        Outcome::Counted(j + 1),
-        Change::Hearing(
-            i,
-            Client {
-                operation: c.operation,
-                work: w,
-                heard: heard,
-                best: best,
-            },
-            j,
-        ),
-    )
+    Hears::Counts(Client {
+        operation: c.operation,
+        work: w,
+        heard: heard,
+        best: best,
+    })
 }
 
-fn end(i: u8, j: u8, operation: u32, how: Ending, shown: Entry, next: Work, best: Entry) -> Decision
-    requires { ⌜ j < 64 ⌝ }
-    ensures { λ r. ⌜ r ≡ ended i j operation how shown next best ⌝ }
+fn end(operation: u32, how: Ending, shown: Entry, next: Work, best: Entry) -> Hears
+    ensures { λ r. ⌜ ((i j : ℕ) → ended i j operation how shown next best ≡ hearsAs i j r) ⌝ }
 {
-    Decision::Yes(
-        Outcome::Ended(how, j + 1, shown),
-        Change::Hearing(
-            i,
-            Client {
-                operation: operation,
-                work: next,
-                heard: Heard::none(),
-                best: best,
-            },
-            j,
-        ),
+    Hears::Ends(
+        how,
+        shown,
+        Client {
+            operation: operation,
+            work: next,
+            heard: Heard::none(),
+            best: best,
+        },
     )
 }
 
-fn first_write(
-    plan: Plan,
-    i: u8,
-    j: u8,
-    c: Client,
-    heard: Heard,
-    n: u8,
-    r: Reading,
-    best: Entry,
-) -> Decision
-    requires { ⌜ (i < 8) × (j < 64) × (best .stamp .counter ≤ 1000000) × (n ≡ countOf heard) ⌝ }
-    ensures { λ d. ⌜ d ≡ firstWrite plan i j c heard r best ⌝ }
+fn first_write(plan: Plan, i: u8, c: Client, heard: Heard, n: u8, r: Reading, best: Entry) -> Hears
+    requires { ⌜ (i < 8) × (best .stamp .counter ≤ 1000000) × (n ≡ countOf heard) ⌝ }
+    ensures { λ d. ⌜ ((j : ℕ) → firstWrite plan i j c heard r best ≡ hearsAs i j d) ⌝ }
 {
     if plan.read <= n {
         let e = Entry {
@@ -186,55 +159,46 @@ fn first_write(
             },
             reading: r,
         };
-        return end(i, j, c.operation, Ending::Chosen, e, Work::SecondWrite, e);
+        return end(c.operation, Ending::Chosen, e, Work::SecondWrite, e);
     }
-    count(i, j, c, heard, best)
+    count(c, heard, best)
 }
 
-fn first_read(plan: Plan, i: u8, j: u8, c: Client, heard: Heard, n: u8, best: Entry) -> Decision
-    requires { ⌜ (j < 64) × (n ≡ countOf heard) ⌝ }
-    ensures { λ d. ⌜ d ≡ firstRead plan i j c heard best ⌝ }
+fn first_read(plan: Plan, c: Client, heard: Heard, n: u8, best: Entry) -> Hears
+    requires { ⌜ n ≡ countOf heard ⌝ }
+    ensures { λ d. ⌜ ((i j : ℕ) → firstRead plan i j c heard best ≡ hearsAs i j d) ⌝ }
 {
     if plan.read <= n {
-        return end(
-            i,
-            j,
-            c.operation,
-            Ending::Found,
-            best,
-            Work::SecondRead,
-            best,
-        );
+        return end(c.operation, Ending::Found, best, Work::SecondRead, best);
     }
-    count(i, j, c, heard, best)
+    count(c, heard, best)
 }
 
-fn second_part(plan: Plan, i: u8, j: u8, c: Client, heard: Heard, n: u8, how: Ending) -> Decision
-    requires { ⌜ (j < 64) × (n ≡ countOf heard) ⌝ }
-    ensures { λ d. ⌜ d ≡ second plan i j c heard how ⌝ }
+fn second_part(plan: Plan, c: Client, heard: Heard, n: u8, how: Ending) -> Hears
+    requires { ⌜ n ≡ countOf heard ⌝ }
+    ensures { λ d. ⌜ ((i j : ℕ) → second plan i j c heard how ≡ hearsAs i j d) ⌝ }
 {
     let best = c.best;
     if plan.write <= n {
-        return end(i, j, c.operation, how, best, Work::Idle, Entry::FACTORY);
+        return end(c.operation, how, best, Work::Idle, Entry::FACTORY);
     }
-    count(i, j, c, heard, best)
+    count(c, heard, best)
 }
 
-// Client m.client, which is c, hears the message m of slot j.
-pub fn hears(plan: Plan, j: u8, c: Client, m: Message) -> Decision
-    requires { ⌜ (m .client < 8) × (j < 64) × (c .best .stamp .counter ≤ 1000000) × (toldCounter (m .body) ≤ 1000000) ⌝ }
-    ensures { λ d. ⌜ d ≡ hearsOf plan j c m ⌝ }
+// Client m.client, which is c, hears the message m.
+pub fn hear(plan: Plan, c: Client, m: Message) -> Hears
+    requires { ⌜ (m .client < 8) × (c .best .stamp .counter ≤ 1000000) × (toldCounter (m .body) ≤ 1000000) ⌝ }
+    ensures { λ d. ⌜ ((j : ℕ) → hearsOf plan j c m ≡ hearsAs (m .client) j d) ⌝ }
 {
-    let i = m.client;
     let before = c.heard;
     let best = c.best;
     let heard = before.with(m.cabinet);
     let n = heard.count();
     match awaited(c, m) {
-        Told::Nothing => discard(j),
-        Told::OfWrite(r, e) => first_write(plan, i, j, c, heard, n, r, best_of(n, best, e)),
-        Told::OfRead(e) => first_read(plan, i, j, c, heard, n, best_of(n, best, e)),
-        Told::Wrote => second_part(plan, i, j, c, heard, n, Ending::Written),
-        Told::ReadBack => second_part(plan, i, j, c, heard, n, Ending::Read),
+        Told::Nothing => Hears::Nothing,
+        Told::OfWrite(r, e) => first_write(plan, m.client, c, heard, n, r, best_of(n, best, e)),
+        Told::OfRead(e) => first_read(plan, c, heard, n, best_of(n, best, e)),
+        Told::Wrote => second_part(plan, c, heard, n, Ending::Written),
+        Told::ReadBack => second_part(plan, c, heard, n, Ending::Read),
     }
 }

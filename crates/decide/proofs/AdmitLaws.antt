@@ -1,14 +1,12 @@
--- Which steps are let in, and the places of a step that was let in: each is one that the run has. Assumes nothing.
+-- The places of a step that was let in: each is one that the run has. Assumes nothing.
 use Prim.Native.Nat.{ℕ, _≤_, _<_}
 use mathlib.Core.Path.{_≡_, refl}
 use mathlib.Core.Bool.{Bool, true, false, cond, _&&_}
 use native.Mathlib.Omega.{arith}
 use lib.Dec.{leb}
-use borrow.Author.Tests.{leb-true, leb-false, le-leb, lt-leb}
+use borrow.Author.Tests.{leb-true, leb-false}
 use Rattle.plan.proofs.RuleLaws.{both}
-use Rattle.cabinet.specs.declared.entry.Reading.{Reading}
 use Rattle.cabinet.specs.Entries.{readingIn}
-use Rattle.parts.specs.declared.answer.Refusal.{Refusal}
 use Rattle.parts.specs.declared.answer.Refusal.the-variants.{Range, Limit}
 use Rattle.parts.specs.declared.client.Work.{Work}
 use Rattle.parts.specs.declared.client.Work.the-variants.{Idle, Gone, FirstWrite, FirstRead, SecondWrite, SecondRead}
@@ -26,7 +24,7 @@ unfolding oneTo
 one-to-is most x e = let p = both (leb 1 x) (leb x most) e in (leb-true _ _ (p .0), leb-true _ _ (p .1))
 
 -- the numbers of a step in range
-pub record Two (a most b over : ℕ) : Type 0 where
+record Two (a most b over : ℕ) : Type 0 where
   pub first : (1 ≤ a) × (a ≤ most)
   pub second : (1 ≤ b) × (b ≤ over)
 
@@ -34,58 +32,6 @@ two : (a most b over : ℕ) → (oneTo most a && oneTo over b) ≡ true → Two 
 two a most b over e =
     let p = both (oneTo most a) (oneTo over b) e in
     record { first = one-to-is most a (p .0); second = one-to-is over b (p .1) }
-
-module _ (n : ℕ) (s : Step) (e : inRange n s ≡ true) where
-  pub range-write : (c : ℕ) (r : Reading) → s ≡ Write c r → ((1 ≤ c) × (c ≤ 8)) × (readingIn r ≡ true)
-  unfolding inRange
-  range-write c r g = let p = both (oneTo 8 c) (readingIn r) (rw g at e) in (one-to-is 8 c (p .0), p .1)
-
-  pub range-read : (c : ℕ) → s ≡ Read c → (1 ≤ c) × (c ≤ 8)
-  unfolding inRange
-  range-read c g = one-to-is 8 c (rw g at e)
-
-  pub range-send : (c k : ℕ) → s ≡ Send c k → Two c 8 k n
-  unfolding inRange
-  range-send c k g = two c 8 k n (rw g at e)
-
-  pub range-deliver : (j : ℕ) → s ≡ Deliver j → (1 ≤ j) × (j ≤ 64)
-  unfolding inRange
-  range-deliver j g = one-to-is 64 j (rw g at e)
-
-  pub range-lose : (j : ℕ) → s ≡ Lose j → (1 ≤ j) × (j ≤ 64)
-  unfolding inRange
-  range-lose j g = one-to-is 64 j (rw g at e)
-
-  pub range-stop : (k : ℕ) → s ≡ Stop k → (1 ≤ k) × (k ≤ n)
-  unfolding inRange
-  range-stop k g = one-to-is n k (rw g at e)
-
-  pub range-leave : (c : ℕ) → s ≡ Leave c → (1 ≤ c) × (c ≤ 8)
-  unfolding inRange
-  range-leave c g = one-to-is 8 c (rw g at e)
-
-  pub range-restart : (k : ℕ) → s ≡ Restart k → (1 ≤ k) × (k ≤ n)
-  unfolding inRange
-  range-restart k g = one-to-is n k (rw g at e)
-
-  pub range-rollback : (k j : ℕ) → s ≡ Rollback k j → Two k n j 7
-  unfolding inRange
-  range-rollback k j g = two k n j 7 (rw g at e)
-
--- ---- one law for each way through `admit`
-
-module _ (n steps : ℕ) (s : Step) where
-  pub admit-range : inRange n s ≡ false → Barred Range ≡ admitOf n steps s
-  unfolding admitOf
-  admit-range e = rw e
-
-  pub admit-limit : inRange n s ≡ true → 1000000 ≤ steps → Barred Limit ≡ admitOf n steps s
-  unfolding admitOf
-  admit-limit e h = rw (e, le-leb _ _ h)
-
-  pub admit-placed : inRange n s ≡ true → steps < 1000000 → placed s ≡ admitOf n steps s
-  unfolding admitOf
-  admit-placed e h = rw (e, lt-leb _ _ h)
 
 -- ---- the places of a step that was let in
 
@@ -111,17 +57,17 @@ Placed n (Restarts p) = p < n
 Placed n (RollsBack p j) = (p < n) × (1 ≤ j) × (j ≤ 7)
 
 range-placed : (n : ℕ) (s : Step) → inRange n s ≡ true → Placed n (placed s)
-unfolding placed
+unfolding inRange placed
 range-placed n Other e = tt
-range-placed n (Write c r) e = let h = range-write n (Write c r) e c r refl in (omega arith, h .1)
-range-placed n (Read c) e = let h = range-read n (Read c) e c refl in (omega arith, tt)
-range-placed n (Send c k) e = let h = range-send n (Send c k) e c k refl in (omega arith, omega arith)
-range-placed n (Deliver j) e = let h = range-deliver n (Deliver j) e j refl in omega arith
-range-placed n (Lose j) e = let h = range-lose n (Lose j) e j refl in omega arith
-range-placed n (Stop k) e = let h = range-stop n (Stop k) e k refl in omega arith
-range-placed n (Leave c) e = let h = range-leave n (Leave c) e c refl in omega arith
-range-placed n (Restart k) e = let h = range-restart n (Restart k) e k refl in omega arith
-range-placed n (Rollback k j) e = let h = range-rollback n (Rollback k j) e k j refl in (omega arith, omega arith, omega arith)
+range-placed n (Write c r) e = let p = both (oneTo 8 c) (readingIn r) e in let h = one-to-is 8 c (p .0) in (omega arith, p .1)
+range-placed n (Read c) e = let h = one-to-is 8 c e in (omega arith, tt)
+range-placed n (Send c k) e = let h = two c 8 k n e in (omega arith, omega arith)
+range-placed n (Deliver j) e = let h = one-to-is 64 j e in omega arith
+range-placed n (Lose j) e = let h = one-to-is 64 j e in omega arith
+range-placed n (Stop k) e = let h = one-to-is n k e in omega arith
+range-placed n (Leave c) e = let h = one-to-is 8 c e in omega arith
+range-placed n (Restart k) e = let h = one-to-is n k e in omega arith
+range-placed n (Rollback k j) e = let h = two k n j 7 e in (omega arith, omega arith, omega arith)
 
 pub admitted-placed : (n steps : ℕ) (s : Step) → Placed n (admitOf n steps s)
 unfolding admitOf

@@ -1,6 +1,6 @@
 -- Which steps are let in: the checks 2 and 3 of document 01's table, and a step's places counted from 0.
 use Prim.Native.Nat.{ℕ, _-_}
-use mathlib.Core.Bool.{Bool, true, false, cond, _&&_}
+use mathlib.Core.Bool.{Bool, false, cond, _&&_}
 use lib.Dec.{leb}
 use Rattle.cabinet.specs.Entries.{readingIn}
 use Rattle.parts.specs.declared.answer.Refusal.the-variants.{Range, Limit}

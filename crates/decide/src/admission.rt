@@ -4,8 +4,12 @@ use parts::Refusal;
 use parts::Step;
 use parts::Work;
 ghost use mathlib.Core.Path.{_≡_};
-ghost use mathlib.Core.Bool.{true, _&&_};
-ghost use Rattle.decide.specs.Admit.{oneTo, inRange, placed, admitOf};
+ghost use mathlib.Core.Bool.{cond, _&&_};
+ghost use lib.Dec.{leb};
+ghost use Prim.Native.Nat.{_-_};
+ghost use Rattle.parts.specs.declared.answer.Refusal.the-variants.{Range, Limit};
+ghost use Rattle.parts.specs.declared.step.Asked.the-variants.{Barred};
+ghost use Rattle.decide.specs.Admit.{oneTo, admitOf};
 
 pub const CLIENTS: u8 = 8;
 
@@ -33,49 +37,59 @@ fn both(a: bool, b: bool) -> bool
     false
 }
 
-fn in_range(n: u8, s: Step) -> bool
-    ensures { λ r. ⌜ r ≡ inRange n s ⌝ }
+// The place, from 0, of a number from 1. There is none for 0, and a step with it is barred.
+fn place(x: u8) -> u8
+    ensures { λ r. ⌜ r ≡ x - 1 ⌝ }
 {
-    match s {
-        Step::Other => false,
-        Step::Write(c, r) => both(one_to(CLIENTS, c), r.in_range()),
-        Step::Read(c) => one_to(CLIENTS, c),
-        Step::Send(c, k) => both(one_to(CLIENTS, c), one_to(n, k)),
-        Step::Deliver(j) => one_to(SLOTS, j),
-        Step::Lose(j) => one_to(SLOTS, j),
-        Step::Stop(k) => one_to(n, k),
-        Step::Leave(c) => one_to(CLIENTS, c),
-        Step::Restart(k) => one_to(n, k),
-        Step::Rollback(k, j) => both(one_to(n, k), one_to(MOST_OLDER, j)),
+    if x < 1 {
+        return 0;
     }
+    x - 1
 }
 
-fn place(s: Step, n: u8) -> Asked
-    requires { ⌜ inRange n s ≡ true ⌝ }
-    ensures { λ r. ⌜ r ≡ placed s ⌝ }
+// The step a, where its numbers are good and a step is left.
+fn let_in(good: bool, steps: u32, a: Asked) -> Asked
+    ensures { λ r. ⌜ r ≡ cond good (cond (leb 1000000 steps) (Barred Limit) a) (Barred Range) ⌝ }
 {
-    match s {
-        Step::Other => Asked::Barred(Refusal::Range),
-        Step::Write(c, r) => Asked::Begins(c - 1, Work::FirstWrite(r)),
-        Step::Read(c) => Asked::Begins(c - 1, Work::FirstRead),
-        Step::Send(c, k) => Asked::Sends(c - 1, k - 1),
-        Step::Deliver(j) => Asked::Delivers(j - 1),
-        Step::Lose(j) => Asked::Loses(j - 1),
-        Step::Stop(k) => Asked::Stops(k - 1),
-        Step::Leave(c) => Asked::Leaves(c - 1),
-        Step::Restart(k) => Asked::Restarts(k - 1),
-        Step::Rollback(k, j) => Asked::RollsBack(k - 1, j),
-    }
-}
-
-pub fn admit(n: u8, steps: u32, s: Step) -> Asked
-    ensures { λ r. ⌜ r ≡ admitOf n steps s ⌝ }
-{
-    if in_range(n, s) {
+    if good {
         if MOST_STEPS <= steps {
             return Asked::Barred(Refusal::Limit);
         }
-        return place(s, n);
+        return a;
     }
     Asked::Barred(Refusal::Range)
+}
+
+// One match for range and places: a second one would be a second jump in the loop over steps.
+pub fn admit(n: u8, steps: u32, s: Step) -> Asked
+    ensures { λ r. ⌜ r ≡ admitOf n steps s ⌝ }
+{
+    match s {
+        Step::Other => Asked::Barred(Refusal::Range),
+        Step::Write(c, r) => let_in(
+            both(one_to(CLIENTS, c), r.in_range()),
+            steps,
+            Asked::Begins(place(c), Work::FirstWrite(r)),
+        ),
+        Step::Read(c) => let_in(
+            one_to(CLIENTS, c),
+            steps,
+            Asked::Begins(place(c), Work::FirstRead),
+        ),
+        Step::Send(c, k) => let_in(
+            both(one_to(CLIENTS, c), one_to(n, k)),
+            steps,
+            Asked::Sends(place(c), place(k)),
+        ),
+        Step::Deliver(j) => let_in(one_to(SLOTS, j), steps, Asked::Delivers(place(j))),
+        Step::Lose(j) => let_in(one_to(SLOTS, j), steps, Asked::Loses(place(j))),
+        Step::Stop(k) => let_in(one_to(n, k), steps, Asked::Stops(place(k))),
+        Step::Leave(c) => let_in(one_to(CLIENTS, c), steps, Asked::Leaves(place(c))),
+        Step::Restart(k) => let_in(one_to(n, k), steps, Asked::Restarts(place(k))),
+        Step::Rollback(k, j) => let_in(
+            both(one_to(n, k), one_to(MOST_OLDER, j)),
+            steps,
+            Asked::RollsBack(place(k), j),
+        ),
+    }
 }

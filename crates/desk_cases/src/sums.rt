@@ -14,6 +14,8 @@ use parts::Outcome;
 use parts::Refusal;
 use parts::Slot;
 use parts::Work;
+use plan::Plan;
+use plan::Profile;
 use run::Run;
 
 fn mix(h: u64, x: u64) -> u64 {
@@ -124,24 +126,48 @@ fn slot(h: u64, t: Slot) -> u64 {
     }
 }
 
-// All but the cabinets.
-pub fn rest(r: Run) -> u64 {
-    let clients = r.clients;
-    let slots = r.slots;
-    let mut g: u64 = mix(0, r.steps as u64);
+fn profile(p: Profile) -> u64 {
+    match p {
+        Profile::Forgetful => 1,
+        Profile::Store => 2,
+    }
+}
+
+fn planned(h: u64, p: Plan) -> u64 {
+    let f = p.profile;
+    let g = mix(mix(mix(h, p.n as u64), p.k as u64), p.r as u64);
+    let q = mix(mix(mix(g, p.b as u64), p.write as u64), p.read as u64);
+    mix(mix(q, p.stores as u64), profile(f))
+}
+
+fn clients(h: u64, l: [Client; 8]) -> u64 {
+    let mut g = h;
     let mut i: usize = 0;
     while i < 8 {
-        let c = clients[i];
+        let c = l[i];
         g = client(g, c);
         i += 1;
     }
-    let mut j: usize = 0;
-    while j < 64 {
-        let t = slots[j];
+    g
+}
+
+fn slots(h: u64, l: [Slot; 64]) -> u64 {
+    let mut g = h;
+    let mut i: usize = 0;
+    while i < 64 {
+        let t = l[i];
         g = slot(g, t);
-        j += 1;
+        i += 1;
     }
     g
+}
+
+// All but the cabinets.
+pub fn rest(r: Run) -> u64 {
+    let p = r.plan;
+    let c = r.clients;
+    let s = r.slots;
+    slots(clients(planned(mix(0, r.steps as u64), p), c), s)
 }
 
 fn refusal_number(w: Refusal) -> u8 {

@@ -2,10 +2,17 @@
 // every other byte as it was. None tests for room: its caller does, once for each row, with `at + ROOM <= buf.len()`.
 mod answer;
 mod number;
+mod often;
 mod outcome;
 mod put;
 mod row;
 
+pub use often::put_answered;
+pub use often::put_counted;
+pub use often::put_discarded;
+pub use often::put_ended;
+pub use often::put_sent;
+pub use often::put_unanswered;
 pub use row::put_head;
 pub use row::put_no_header;
 pub use row::put_plan;

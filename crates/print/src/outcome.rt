@@ -16,7 +16,7 @@ ghost use Rattle.print.specs.Rows.{fields, slotShown, entryShown, outcom
 ghost use Rattle.print.specs.Words.{bytes, endingWord, outcomeWord, readingText};
 
 // `word` is a byte string at each call, answer and commas among its bytes.
-fn put_slot(buf: &mut [u8], at: usize, word: &[u8], slot: u8) -> usize
+pub fn put_slot(buf: &mut [u8], at: usize, word: &[u8], slot: u8) -> usize
     requires { ⌜ at + length (now word) + 8 ≤ length (now buf) ⌝ }
     ensures { λ r. ⌜ Wrote (now (buf .entry)) at (now (word .entry) ++ fields (slotShown slot)) (now (buf .exit)) r ⌝ }
     ensures { λ r. ⌜ r ≤ at + length (now (word .entry)) + 8 ⌝ }
@@ -42,7 +42,7 @@ fn put_reading(buf: &mut [u8], at: usize, reading: Reading) -> usize
     }
 }
 
-fn put_entry(buf: &mut [u8], at: usize, slot: u8, entry: Entry) -> usize
+pub fn put_entry(buf: &mut [u8], at: usize, slot: u8, entry: Entry) -> usize
     requires { ⌜ at + 39 ≤ length (now buf) ⌝ }
     ensures { λ r. ⌜ Wrote (now (buf .entry)) at (fields (entryShown slot entry)) (now (buf .exit)) r ⌝ }
     ensures { λ r. ⌜ r ≤ at + 39 ⌝ }
@@ -54,7 +54,7 @@ fn put_entry(buf: &mut [u8], at: usize, slot: u8, entry: Entry) -> usize
     put_reading(buf, k, reading)
 }
 
-fn put_ending(buf: &mut [u8], at: usize, ending: Ending) -> usize
+pub fn put_ending(buf: &mut [u8], at: usize, ending: Ending) -> usize
     requires { ⌜ at + 10 ≤ length (now buf) ⌝ }
     ensures { λ r. ⌜ Wrote (now (buf .entry)) at (bytes ",0," ++ endingWord ending) (now (buf .exit)) r ⌝ }
     ensures { λ r. ⌜ r ≤ at + 10 ⌝ }

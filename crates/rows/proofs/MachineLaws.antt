@@ -7,19 +7,16 @@ use mathlib.Core.List.{List, [], _∷_, _++_, append-assoc, append-nil}
 use mathlib.Core.Path.{_≡_, refl, sym, _∙_, ap}
 use lib.ListN.{length, getD, set, take}
 use lib.Seq.{take-suc, take-suc-set, length-take-le, take-length}
-use lib.Dec.{eqb, leb, ltb}
+use lib.Dec.{leb}
 use borrow.Author.Tests.{lt-ltb, le-ltb, le-leb, lt-leb, eq-eqb, ne-eqb, leb-true}
 use Rattle.parts.specs.declared.step.Step.{Step}
 use Rattle.run.specs.declared.Run.{Run}
 use Rattle.run.specs.declared.Started.{Started}
-use Rattle.run.specs.declared.Stepped.{Stepped}
 use Rattle.run.specs.Start.{startOf}
-use Rattle.run.specs.Steps.{stepOf}
-use Rattle.text.specs.declared.row.Row.{Row}
 use Rattle.text.specs.declared.row.Row.the-variants.{Other, Plan, Step as RowStep}
 use Rattle.print.specs.Put.{put, Wrote}
 use Rattle.print.specs.Numbers.{decimal, digitsBy}
-use Rattle.print.specs.Rows.{rowText, stepText, planText, refusalText, noHeaderText, headText}
+use Rattle.print.specs.Rows.{rowText, planText, noHeaderText, headText}
 use Rattle.print.proofs.PutLaws.{put-none, length-put, after}
 use Rattle.rows.specs.declared.Fed.{Fed}
 use Rattle.rows.specs.declared.Kept.{Kept}
@@ -51,22 +48,6 @@ module _ (n : ℕ) (run : Run) (h : Held) where
   pub plan-some : (a b c d : ℕ) (s : Started) → Plan a b c d ≡ rowIn h → s ≡ startOf a b c d → (startPhase (s .planned) ≡ nextPhase Planning h) × (n + 1 ≡ nextRow Planning n) × (s .run ≡ nextRun Planning run h) × (planText n (s .planned) ≡ sayLine Planning n run h)
   unfolding nextPhase nextRow nextRun sayLine
   plan-some a b c d s e f = rw (← e, f) (refl, refl, refl, refl)
-
-  pub step-none : Other ≡ rowIn h → (nextRun Running run Over ≡ nextRun Running run h) × (sayLine Running n run Over ≡ sayLine Running n run h)
-  unfolding nextRun sayLine
-  step-none e = rw (← e) (refl, refl)
-
-  pub step-plan : (a b c d : ℕ) → Plan a b c d ≡ rowIn h → (nextRun Running run Over ≡ nextRun Running run h) × (sayLine Running n run Over ≡ sayLine Running n run h)
-  unfolding nextRun sayLine
-  step-plan a b c d e = rw (← e) (refl, refl)
-
-  pub step-some : (s : Step) (t : Stepped) → RowStep s ≡ rowIn h → t ≡ stepOf run s → (t .run ≡ nextRun Running run h) × (stepText n (t .answer) ≡ sayLine Running n run h)
-  unfolding nextRun sayLine
-  step-some s t e f = rw (← e, f) (refl, refl)
-
-pub running-stays : (h : Held) → Running ≡ nextPhase Running h
-unfolding nextPhase
-running-stays h = refl
 
 pub row-grows : (p : Phase) (n : ℕ) → nextRow p n ≤ n + 1
 unfolding nextRow
@@ -112,7 +93,7 @@ held-line n k l h e = rw (le-leb _ _ h, e)
 
 -- ---- one byte
 
-pub held-more : (n b : ℕ) (l : List ℕ) → length l ≡ 65 → n < 65 → heldOf (n + 1) (set l n b) ≡ push (heldOf n l) b
+pub held-more : (n b : ℕ) (l : List ℕ) → length l ≡ 67 → n < 65 → heldOf (n + 1) (set l n b) ≡ push (heldOf n l) b
 unfolding heldOf push
 held-more n b l e h =
     let k : n < length l = omega arith in
@@ -122,7 +103,7 @@ held-more n b l e h =
     let u : length (take n l) < 65 = omega arith in
     rw (le-leb _ _ q, le-leb _ _ k′, lt-ltb _ _ u, add-one, take-suc-set l n b k)
 
-pub held-full : (n b : ℕ) (l m : List ℕ) → length l ≡ 65 → 65 ≤ n → heldOf 66 m ≡ push (heldOf n l) b
+pub held-full : (n b : ℕ) (l m : List ℕ) → length l ≡ 67 → 65 ≤ n → heldOf 66 m ≡ push (heldOf n l) b
 unfolding heldOf push
 held-full n b l m e h = go (leb n 65) refl
   where
@@ -184,12 +165,12 @@ Going s d k₀ m₀ i line e k run =
     × (k₀ .row + length s < 2 ^ 64)
 
 module _ (s d : List ℕ) (k₀ : Kept) (m₀ : Mach) (i : ℕ) (line e : List ℕ) (k : Kept) (run : Run) where
-  pub going-lf : (f : List ℕ) (r : Fed) → Going s d k₀ m₀ i line e k run → i < length s → getD s i 0 ≡ 10 → Acted (k .phase) k run (short (heldOf (k .len) line)) e f r → Going s d k₀ m₀ (i + 1) line f (r .kept) (r .run)
-  going-lf f r g h t a =
+  pub going-lf : (line′ f : List ℕ) (r : Fed) → Going s d k₀ m₀ i line e k run → i < length s → getD s i 0 ≡ 10 → Acted (k .phase) k run (short (heldOf (k .len) line)) e f r → Going s d k₀ m₀ (i + 1) line′ f (r .kept) (r .run)
+  going-lf line′ f r g h t a =
       let m : Mach = machOf k line run in
       let b : ℕ = getD s i 0 in
       let w : Wrote e (k .at) (sayM m b) f (r .kept .at) = rw (← say-lf m b t) (a .4, a .5) in
-      let q = feed-next m₀ m (machOf (r .kept) line (r .run)) s i d e f (k₀ .at) (k .at) (r .kept .at) h (g .4) (byte-lf m b _ line _ _ _ t (a .0) (a .1) (a .2) (a .3)) (g .5, g .6) w (omega (arith, g .7)) in
+      let q = feed-next m₀ m (machOf (r .kept) line′ (r .run)) s i d e f (k₀ .at) (k .at) (r .kept .at) h (g .4) (byte-lf m b _ line′ _ _ _ t (a .0) (a .1) (a .2) (a .3)) (g .5, g .6) w (omega (arith, g .7)) in
       let o : r .kept .at ≤ k₀ .at + 69 * (i + 1) = omega (arith, g .2, a .6) in
       let z : length (put d (k₀ .at) (sayAll m₀ (take (i + 1) s))) ≡ length d = length-put d (k₀ .at) _ (omega (arith, o, g .7, q .1 .1, h)) in
       (omega (arith, h), ap length (q .1 .0) ∙ z, o, omega (arith, g .3, a .2, row-grows (k .phase) (k .row)), q .0, q .1 .0, q .1 .1, g .7, g .8)
@@ -220,7 +201,7 @@ end-some Running n run [] h = absurd (omega arith)
 end-some Running n run (x ∷ l) h = refl
 end-some Ended n run l h = refl
 
-pub end-line-is : (p : Phase) (n : ℕ) (run : Run) (k : ℕ) (l : List ℕ) → length l ≡ 65 → k ≤ 65 → 0 < k → sayLine p n run (pickHeld false (take k l)) ≡ endBy p n run (heldOf k l)
+pub end-line-is : (p : Phase) (n : ℕ) (run : Run) (k : ℕ) (l : List ℕ) → length l ≡ 67 → k ≤ 65 → 0 < k → sayLine p n run (pickHeld false (take k l)) ≡ endBy p n run (heldOf k l)
 unfolding heldOf
 end-line-is p n run k l e h z =
     let t : length (take k l) ≡ k = length-take-le k l (omega arith) in

@@ -1,13 +1,11 @@
 -- The machine says the transcript, however its input is cut into parts.
-use Prim.Native.Nat.{ℕ, suc, _+_, _-_, _<_, _≤_}
+use Prim.Native.Nat.{ℕ, _+_}
 use native.Mathlib.Omega.{arith}
 use mathlib.Core.Bool.{Bool, true, false, cond}
 use mathlib.Core.List.{List, [], _∷_, _++_, append-assoc, append-nil}
 use mathlib.Core.Path.{_≡_, refl, sym, _∙_, ap}
-use lib.ListN.{length, take, getD, length-append}
-use lib.Seq.{length-take-le}
-use lib.Dec.{eqb, leb, ltb}
-use borrow.Author.Tests.{le-leb, lt-leb, leb-false, leb-true, ltb-true, ltb-false}
+use lib.ListN.{length}
+use lib.Dec.{eqb, leb}
 use Rattle.plan.specs.declared.Planned.{Planned}
 use Rattle.plan.specs.declared.Planned.the-variants.{OutOfRange, TooSmall, Accepted}
 use Rattle.run.specs.declared.Run.{Run}
@@ -20,7 +18,8 @@ use Rattle.text.proofs.BytesLaws.{same-lengths}
 use Rattle.print.specs.Rows.{planText, refusalText, noHeaderText, headText}
 use Rattle.rows.specs.declared.Phase.{Phase}
 use Rattle.rows.specs.declared.Phase.the-variants.{Header, Planning, Running, Ended}
-use Rattle.rows.specs.Machine.{Held, Line, Over, Mach, short, rowIn, headIn, planSay, planPhase, planRun, startPhase, nextPhase, nextRow, nextRun, sayLine, push, ended, stepM, sayM, runM, sayAll, endBy, endText, textFrom, start, joined, saidBy}
+use Rattle.rows.specs.Machine.{Held, Line, Over, Mach, short, rowIn, headIn, planSay, planPhase, planRun, startPhase, nextPhase, nextRow, nextRun, sayLine, push, ended, stepM, sayM, runM, sayAll, endBy, textFrom, start, joined, saidBy}
+use Rattle.rows.proofs.HeldLaws.{holds, hold-push, row-lf, row-end, head-lf, head-end}
 use Rattle.rows.specs.Rehearsal.{unended, lastRow, rowsFrom, answerText, runAfter, stepsText, afterPlan, planRowText, afterHeader, rowsText, transcript}
 
 -- ---- an input in parts
@@ -35,65 +34,7 @@ unfolding textFrom
 parts-from m [] = refl
 parts-from m (c ∷ cs) = ap (λ (x : List ℕ). sayAll m c ++ x) (parts-from (runM m c) cs) ∙ sym (text-append m c (joined cs))
 
--- ---- the bytes of a row so far
-
-abbrev holds : List ℕ → Held
-holds l = cond (leb (length l) 65) (Line l) Over
-
-hold-push : (p : List ℕ) (b : ℕ) → push (holds p) b ≡ holds (p ++ (b ∷ []))
-unfolding push
-hold-push p b = go (leb (length p) 65) (ltb (length p) 65) refl refl
-  where
-    go : (t u : Bool) → leb (length p) 65 ≡ t → ltb (length p) 65 ≡ u → push (cond t (Line p) Over) b ≡ cond (leb (length (p ++ (b ∷ []))) 65) (Line (p ++ (b ∷ []))) Over
-    go true true e f = let h : length (p ++ (b ∷ [])) ≤ 65 = omega (arith, length-append p (b ∷ []), ltb-true (length p) 65 f) in rw (le-leb _ _ h, f)
-    go true false e f = let h : 65 < length (p ++ (b ∷ [])) = omega (arith, length-append p (b ∷ []), ltb-false (length p) 65 f) in rw (lt-leb _ _ h, f)
-    go false u e f = let h : 65 < length (p ++ (b ∷ [])) = omega (arith, length-append p (b ∷ []), leb-false (length p) 65 e) in rw (lt-leb _ _ h)
-
--- a row without its end lacks one byte at most
-unended-long : (l : List ℕ) → 65 < length l → 64 < length (unended l)
-unfolding unended
-unended-long l h = go (eqb (getD l (length l - 1) 0) 13)
-  where
-    go : (t : Bool) → 64 < length (cond t (take (length l - 1) l) l)
-    go true = let e : length (take (length l - 1) l) ≡ length l - 1 = length-take-le (length l - 1) l (omega arith) in omega arith
-    go false = omega arith
-
-long-row : (l : List ℕ) → 64 < length l → Other ≡ rowOf l
-unfolding rowOf
-long-row l h = rw (lt-leb _ _ h)
-
-long-head : (l : List ℕ) → 64 < length l → false ≡ isHeader l
-unfolding isHeader
-long-head l h = same-lengths l header (λ e. omega arith)
-
--- what the machine sees in a row is what the document sees, at an LF and at the input's end
-row-lf : (p : List ℕ) → rowIn (short (holds p)) ≡ rowOf (unended p)
-row-lf p = go (leb (length p) 65) refl
-  where
-    go : (t : Bool) → leb (length p) 65 ≡ t → rowIn (short (cond t (Line p) Over)) ≡ rowOf (unended p)
-    go true e = refl
-    go false e = long-row (unended p) (unended-long p (leb-false (length p) 65 e))
-
-row-end : (p : List ℕ) → rowIn (holds p) ≡ rowOf p
-row-end p = go (leb (length p) 65) refl
-  where
-    go : (t : Bool) → leb (length p) 65 ≡ t → rowIn (cond t (Line p) Over) ≡ rowOf p
-    go true e = refl
-    go false e = let h : 65 < length p = leb-false (length p) 65 e in long-row p (omega arith)
-
-head-lf : (p : List ℕ) → headIn (short (holds p)) ≡ isHeader (unended p)
-head-lf p = go (leb (length p) 65) refl
-  where
-    go : (t : Bool) → leb (length p) 65 ≡ t → headIn (short (cond t (Line p) Over)) ≡ isHeader (unended p)
-    go true e = refl
-    go false e = long-head (unended p) (unended-long p (leb-false (length p) 65 e))
-
-head-end : (p : List ℕ) → headIn (holds p) ≡ isHeader p
-head-end p = go (leb (length p) 65) refl
-  where
-    go : (t : Bool) → leb (length p) 65 ≡ t → headIn (cond t (Line p) Over) ≡ isHeader p
-    go true e = refl
-    go false e = let h : 65 < length p = leb-false (length p) 65 e in long-head p (omega arith)
+-- ---- the input's end
 
 -- at the input's end a row of at least one byte is said as any other
 end-some : (p : Phase) (n : ℕ) (run : Run) (b : ℕ) (l : List ℕ) → endBy p n run (holds (b ∷ l)) ≡ sayLine p n run (holds (b ∷ l))

@@ -9,10 +9,8 @@ use print::put_head;
 use print::put_no_header;
 use print::put_plan;
 use print::put_refusal;
-use print::put_step;
 use run::Run;
 use run::start;
-use run::take;
 use text::Row;
 ghost use mathlib.Core.Path.{_≡_};
 ghost use mathlib.Core.Bool.{true};
@@ -20,7 +18,7 @@ ghost use mathlib.Core.List.{[]};
 ghost use Prim.Native.Nat.{_≤_, _<_, _+_, _^_};
 ghost use lib.ListN.{length};
 ghost use Rattle.print.specs.Rows.{room};
-ghost use Rattle.rows.specs.Machine.{Acted, pickHeld, startPhase};
+ghost use Rattle.rows.specs.Machine.{Acted, isRunning, pickHeld, startPhase};
 
 fn start_phase(p: Planned) -> Phase
     ensures { λ x. ⌜ x ≡ startPhase p ⌝ }
@@ -127,36 +125,9 @@ fn no_step(out: &mut [u8], kept: Kept, run: Run) -> Fed
     }
 }
 
-// A step row.
-fn step_row(over: bool, l: &[u8], out: &mut [u8], kept: Kept, run: Run) -> Fed
-    requires { ⌜ kept .at + room ≤ length (now out) ⌝ }
-    requires { ⌜ kept .row + 1 < 2 ^ 64 ⌝ }
-    ensures { λ r. ⌜ Acted Phase.Running kept run (pickHeld over (now (l .entry))) (now (out .entry)) (now (out .exit)) r ⌝ }
-{
-    match row_in(over, l) {
-        Row::Other => no_step(out, kept, run),
-        Row::Plan(_, _, _, _) => no_step(out, kept, run),
-        Row::Step(s) => {
-            let t = take(run, s);
-            let a = t.answer;
-            let next = t.run;
-            let row = kept.row;
-            let end = put_step(out, kept.at, row, a);
-            Fed {
-                kept: Kept {
-                    len: 0,
-                    at: end,
-                    phase: Phase::Running,
-                    row: row + 1,
-                },
-                run: next,
-            }
-        }
-    }
-}
-
-// A row without its end; over: it is longer than what is handed over.
+// A row without its end; over: it is longer than what is handed over. Where steps are due, only such a row comes here.
 pub fn act(over: bool, l: &[u8], out: &mut [u8], kept: Kept, run: Run) -> Fed
+    requires { ⌜ (isRunning (kept .phase) ≡ true → over ≡ true) ⌝ }
     requires { ⌜ kept .at + room + room ≤ length (now out) ⌝ }
     requires { ⌜ kept .row + 1 < 2 ^ 64 ⌝ }
     ensures { λ r. ⌜ Acted (kept .phase) kept run (pickHeld over (now (l .entry))) (now (out .entry)) (now (out .exit)) r ⌝ }
@@ -165,7 +136,7 @@ pub fn act(over: bool, l: &[u8], out: &mut [u8], kept: Kept, run: Run) -> Fed
     match p {
         Phase::Header => head_row(over, l, out, kept, run),
         Phase::Planning => plan_row(over, l, out, kept, run),
-        Phase::Running => step_row(over, l, out, kept, run),
+        Phase::Running => no_step(out, kept, run),
         Phase::Ended => Fed {
             kept: Kept {
                 len: 0,

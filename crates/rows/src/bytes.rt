@@ -4,15 +4,27 @@ use super::Kept;
 use super::LINE;
 use super::Phase;
 use super::answers::act;
+use super::line::full;
 use super::line::trim;
+use super::steps::steps;
 use run::Run;
 use run::start;
 ghost use mathlib.Core.Path.{_≡_};
-ghost use Prim.Native.Nat.{_≤_, _<_, _+_, _*_, _^_};
-ghost use lib.ListN.{length};
+ghost use mathlib.Core.Bool.{true};
+ghost use Prim.Native.Nat.{ℕ, _≤_, _<_, _+_, _*_, _^_};
+ghost use lib.ListN.{length, take};
 ghost use Rattle.print.specs.Put.{put};
 ghost use Rattle.print.specs.Rows.{room};
-ghost use Rattle.rows.specs.Machine.{Acted, short, heldOf, machOf, push as Machine·push, runM, sayAll, endBy, startFed};
+ghost use Rattle.run.specs.declared.Run.{Run as AnyRun};
+ghost use Rattle.text.specs.Ahead.{breaks};
+ghost use Rattle.rows.specs.Machine.{Acted, Whole, atRow, atStep, isRunning, short, heldOf, machOf, push as Machine·push, runM, sayAll, startFed};
+
+// How many bytes were used, what is kept, and the run.
+struct Led {
+    used: usize,
+    kept: Kept,
+    run: Run,
+}
 
 // Before the first byte.
 pub fn fresh() -> Fed
@@ -31,32 +43,53 @@ pub fn fresh() -> Fed
     }
 }
 
-// LF: the row is answered.
-fn end_line(line: &[u8; 65], out: &mut [u8], kept: Kept, run: Run) -> Fed
+// LF: the row is answered. A step row is whole with it, and goes the way of all whole rows.
+fn end_line(line: &mut [u8; 67], out: &mut [u8], kept: Kept, run: Run) -> Fed
     requires { ⌜ kept .at + room + room ≤ length (now out) ⌝ }
     requires { ⌜ kept .row + 1 < 2 ^ 64 ⌝ }
+    requires { ⌜ Whole (machOf kept (now line) run) ⌝ }
     ensures { λ r. ⌜ Acted (kept .phase) kept run (short (heldOf (kept .len) (now (line .entry)))) (now (out .entry)) (now (out .exit)) r ⌝ }
 {
     let len = kept.len;
-    let s: &[u8] = line;
+    let p = kept.phase;
     if LINE < len {
+        let s: &[u8] = line;
         return act(true, s, out, kept, run);
     }
+    if is_running(p) {
+        line[len] = b'\n';
+        let s: &[u8] = line;
+        let went = steps(&s[..len + 1], out, kept.at, kept.row, run);
+        let next = went.run;
+        return Fed {
+            kept: Kept {
+                len: 0,
+                at: went.at,
+                phase: Phase::Running,
+                row: went.row,
+            },
+            run: next,
+        };
+    }
+    let s: &[u8] = line;
     let l = &s[..len];
     let n = trim(l);
     act(false, &l[..n], out, kept, run)
 }
 
-// A row's array has 65 bytes.
-fn full(line: &[u8; 65]) -> usize
-    ensures { λ r. ⌜ length (now (line .entry)) ≡ 65 ⌝ }
+pub fn is_running(p: Phase) -> bool
+    ensures { λ r. ⌜ r ≡ isRunning p ⌝ }
 {
-    let s: &[u8] = line;
-    s.len()
+    match p {
+        Phase::Header => false,
+        Phase::Planning => false,
+        Phase::Running => true,
+        Phase::Ended => false,
+    }
 }
 
 // A byte that is no LF: how many bytes the row has with it.
-fn push(b: u8, line: &mut [u8; 65], len: usize) -> usize
+fn push(b: u8, line: &mut [u8; 67], len: usize) -> usize
     ensures { λ r. ⌜ heldOf r (now (line .exit)) ≡ Machine·push (heldOf len (now (line .entry))) b ⌝ }
 {
     full(line);
@@ -67,19 +100,37 @@ fn push(b: u8, line: &mut [u8; 65], len: usize) -> usize
     LINE + 1
 }
 
-// A part of the input. Each row that it ends takes at most 69 bytes of the buffer, and 69 more are asked for, since the header's refusal is two rows.
-pub fn feed(s: &[u8], line: &mut [u8; 65], out: &mut [u8], kept: Kept, run: Run) -> Fed
+// Whether a step row begins here.
+fn at_step(p: Phase, len: usize) -> bool
+    ensures { λ r. ⌜ r ≡ atStep p len ⌝ }
+{
+    match p {
+        Phase::Header => false,
+        Phase::Planning => false,
+        Phase::Running => len == 0,
+        Phase::Ended => false,
+    }
+}
+
+// The bytes of s up to where a step row begins, or all.
+fn lead(s: &[u8], line: &mut [u8; 67], out: &mut [u8], kept: Kept, run: Run) -> Led
     requires { ⌜ kept .at + room * length (now s) + room ≤ length (now out) ⌝ }
     requires { ⌜ kept .row + length (now s) < 2 ^ 64 ⌝ }
-    ensures { λ r. ⌜ machOf (r .kept) (now (line .exit)) (r .run) ≡ runM (machOf kept (now (line .entry)) run) (now (s .entry)) ⌝ }
-    ensures { λ r. ⌜ now (out .exit) ≡ put (now (out .entry)) (kept .at) (sayAll (machOf kept (now (line .entry)) run) (now (s .entry))) ⌝ }
-    ensures { λ r. ⌜ r .kept .at ≡ kept .at + length (sayAll (machOf kept (now (line .entry)) run) (now (s .entry))) ⌝ }
-    ensures { λ r. ⌜ (r .kept .at ≤ kept .at + room * length (now (s .entry))) × (r .kept .row ≤ kept .row + length (now (s .entry))) ⌝ }
+    requires { ⌜ Whole (machOf kept (now line) run) ⌝ }
+    ensures { λ r. ⌜ machOf (r .kept) (now (line .exit)) (r .run) ≡ runM (machOf kept (now (line .entry)) run) (take (r .used) (now (s .entry))) ⌝ }
+    ensures { λ r. ⌜ now (out .exit) ≡ put (now (out .entry)) (kept .at) (sayAll (machOf kept (now (line .entry)) run) (take (r .used) (now (s .entry)))) ⌝ }
+    ensures { λ r. ⌜ r .kept .at ≡ kept .at + length (sayAll (machOf kept (now (line .entry)) run) (take (r .used) (now (s .entry)))) ⌝ }
+    ensures { λ r. ⌜ (r .kept .at ≤ kept .at + room * r .used) × (r .kept .row ≤ kept .row + r .used) ⌝ }
+    ensures { λ r. ⌜ (r .used ≤ length (now (s .entry))) × (r .used < length (now (s .entry)) → atStep (r .kept .phase) (r .kept .len) ≡ true) ⌝ }
 {
     let mut k = kept;
     let mut held = run;
     let mut i = 0;
     while i < s.len() {
+        let p = k.phase;
+        if at_step(p, k.len) {
+            break;
+        }
         if s[i] == b'\n' {
             let f = end_line(line, out, k, held);
             let kept = f.kept;
@@ -92,38 +143,58 @@ pub fn feed(s: &[u8], line: &mut [u8; 65], out: &mut [u8], kept: Kept, run: Run)
         }
         i += 1;
     }
-    Fed { kept: k, run: held }
+    Led {
+        used: i,
+        kept: k,
+        run: held,
+    }
 }
 
-// The input's end: a row that has no LF, or an input with no byte. Answers where the buffer's text ends.
-pub fn finish(line: &[u8; 65], out: &mut [u8], kept: Kept, run: Run) -> usize
-    requires { ⌜ kept .at + room + room ≤ length (now out) ⌝ }
-    requires { ⌜ kept .row + 1 < 2 ^ 64 ⌝ }
-    ensures { λ r. ⌜ now (out .exit) ≡ put (now (out .entry)) (kept .at) (endBy (kept .phase) (kept .row) run (heldOf (kept .len) (now (line .entry)))) ⌝ }
-    ensures { λ r. ⌜ (r ≡ kept .at + length (endBy (kept .phase) (kept .row) run (heldOf (kept .len) (now (line .entry))))) × (r ≤ kept .at + room) ⌝ }
+// Bytes without LF at a row's beginning: how many the row then has.
+fn hold(s: &[u8], line: &mut [u8; 67]) -> usize
+    requires { ⌜ breaks (now s) ≡ 0 ⌝ }
+    ensures { λ r. ⌜ ((n : ℕ) (run : AnyRun) → runM (atRow n run) (now (s .entry)) ≡ record { held = heldOf r (now (line .exit)); phase = Phase.Running; row = n; run = run }) ⌝ }
 {
-    let at = kept.at;
-    let len = kept.len;
-    let p = kept.phase;
-    let s: &[u8] = line;
-    if LINE < len {
-        let f = act(true, s, out, kept, run);
-        let k = f.kept;
-        return k.at;
+    let mut len = 0;
+    let mut i = 0;
+    while i < s.len() {
+        len = push(s[i], line, len);
+        i += 1;
     }
-    if 0 < len {
-        let f = act(false, &s[..len], out, kept, run);
-        let k = f.kept;
-        return k.at;
+    len
+}
+
+// A part of the input. Each row that it ends takes at most 69 bytes of the buffer, and 69 more are asked for, since the header's refusal is two rows.
+pub fn feed(s: &[u8], line: &mut [u8; 67], out: &mut [u8], kept: Kept, run: Run) -> Fed
+    requires { ⌜ kept .at + room * length (now s) + room ≤ length (now out) ⌝ }
+    requires { ⌜ kept .row + length (now s) < 2 ^ 64 ⌝ }
+    requires { ⌜ Whole (machOf kept (now line) run) ⌝ }
+    ensures { λ r. ⌜ machOf (r .kept) (now (line .exit)) (r .run) ≡ runM (machOf kept (now (line .entry)) run) (now (s .entry)) ⌝ }
+    ensures { λ r. ⌜ now (out .exit) ≡ put (now (out .entry)) (kept .at) (sayAll (machOf kept (now (line .entry)) run) (now (s .entry))) ⌝ }
+    ensures { λ r. ⌜ r .kept .at ≡ kept .at + length (sayAll (machOf kept (now (line .entry)) run) (now (s .entry))) ⌝ }
+    ensures { λ r. ⌜ (r .kept .at ≤ kept .at + room * length (now (s .entry))) × (r .kept .row ≤ kept .row + length (now (s .entry))) ⌝ }
+    ensures { λ r. ⌜ Whole (machOf (r .kept) (now (line .exit)) (r .run)) ⌝ }
+{
+    let led = lead(s, line, out, kept, run);
+    let k = led.kept;
+    let held = led.run;
+    let used = led.used;
+    let rest = &s[used..];
+    let p = k.phase;
+    if at_step(p, k.len) {
+        let went = steps(rest, out, k.at, k.row, held);
+        let next = went.run;
+        let passed = went.used;
+        let len = hold(&rest[passed..], line);
+        return Fed {
+            kept: Kept {
+                len: len,
+                at: went.at,
+                phase: Phase::Running,
+                row: went.row,
+            },
+            run: next,
+        };
     }
-    match p {
-        Phase::Header => {
-            let f = act(false, &s[..0], out, kept, run);
-            let k = f.kept;
-            k.at
-        }
-        Phase::Planning => at,
-        Phase::Running => at,
-        Phase::Ended => at,
-    }
+    Fed { kept: k, run: held }
 }

@@ -1,11 +1,14 @@
 // The rehearsal of a step list: a machine that is fed the bytes of an input in parts of any size, and puts what it says into a lent buffer.
 mod answers;
 mod bytes;
+mod ends;
+mod find;
 mod line;
+mod steps;
 
 pub use bytes::feed;
-pub use bytes::finish;
 pub use bytes::fresh;
+pub use ends::finish;
 use run::Run;
 
 pub enum Phase {

@@ -1,10 +1,18 @@
-// A row's bytes: its end, and what it says.
+// A row's bytes: the array that has them, where they end, and what they say.
 use text::Row;
 ghost use mathlib.Core.Path.{_≡_};
 ghost use Prim.Native.Nat.{_≤_};
 ghost use lib.ListN.{length, take};
 ghost use Rattle.rows.specs.Machine.{rowIn, headIn, pickHeld};
 ghost use Rattle.rows.specs.Rehearsal.{unended};
+
+// A row's array has 67 bytes: a row of 64 and a CR, and a CR and an LF to end it with.
+pub fn full(line: &[u8; 67]) -> usize
+    ensures { λ r. ⌜ length (now (line .entry)) ≡ 67 ⌝ }
+{
+    let s: &[u8] = line;
+    s.len()
+}
 
 // How long a row is without one CR at its end.
 pub fn trim(l: &[u8]) -> usize

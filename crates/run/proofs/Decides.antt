@@ -1,10 +1,17 @@
 -- Each public contract decides: any two results that it allows for the same arguments are equal, the answer and every part of the next
 -- run. `Post` is the contract as the checker reads it in src/, so a weaker contract is refused here. Assumes nothing.
+use Prim.Native.Nat.{ℕ}
 use mathlib.Core.Path.{_≡_, sym, _∙_}
 use mathlib.Core.Bool.{Bool}
+use Rattle.parts.specs.declared.answer.Sight.{Sight}
 use Rattle.run.specs.declared.Started.{Started}
 use Rattle.run.specs.declared.Stepped.{Stepped}
+use Rattle.run.specs.declared.gather.Aim.{Aim}
 use Rattle.run.proofs.fresh.start.Reads as start
+use Rattle.run.proofs.gather.aim_of.Reads as aim-of
+use Rattle.run.proofs.gather.is_empty.Reads as is-empty
+use Rattle.run.proofs.gather.others_marked.Reads as others-marked
+use Rattle.run.proofs.gather.sight.Reads as sight
 use Rattle.run.proofs.guarded.undamaged.Reads as undamaged
 use Rattle.run.proofs.steps.take.Reads as take
 
@@ -16,3 +23,15 @@ undamaged-decides κs a x y s s′ p q = p ∙ sym q
 
 pub take-decides : (κs : _) (a : _) (x y : Stepped) (s s′ : _) → take.Post κs a x s → take.Post κs a y s′ → x ≡ y
 take-decides κs a x y s s′ p q = p ∙ sym q
+
+pub is-empty-decides : (κs : _) (a : _) (x y : Bool) (s s′ : _) → is-empty.Post κs a x s → is-empty.Post κs a y s′ → x ≡ y
+is-empty-decides κs a x y s s′ p q = p ∙ sym q
+
+pub others-marked-decides : (κs : _) (a : _) (x y : ℕ) (s s′ : _) → others-marked.Post κs a x s → others-marked.Post κs a y s′ → x ≡ y
+others-marked-decides κs a x y s s′ p q = p ∙ sym q
+
+pub sight-decides : (κs : _) (a : _) (x y : Sight) (s s′ : _) → sight.Post κs a x s → sight.Post κs a y s′ → x ≡ y
+sight-decides κs a x y s s′ p q = p ∙ sym q
+
+pub aim-of-decides : (κs : _) (a : _) (x y : Aim) (s s′ : _) → aim-of.Post κs a x s → aim-of.Post κs a y s′ → x ≡ y
+aim-of-decides κs a x y s s′ p q = p ∙ sym q

@@ -1,3 +1,4 @@
+pub mod ArmLaws
 pub mod ChangeLaws
 pub mod CounterLaws
 pub mod Decides

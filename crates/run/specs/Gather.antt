@@ -6,7 +6,6 @@ use lib.Dec.{eqb}
 use Rattle.cabinet.specs.declared.record.Cabinet.{Cabinet}
 use Rattle.parts.specs.declared.message.Held.{Held}
 use Rattle.parts.specs.declared.message.Held.the-variants.{Empty, Request, Reply}
-use Rattle.parts.specs.declared.message.Message.{Message}
 use Rattle.parts.specs.declared.message.Slot.{Slot}
 use Rattle.parts.specs.declared.step.Asked.{Asked}
 use Rattle.parts.specs.declared.step.Asked.the-variants.{Barred, Begins, Sends, Delivers, Loses, Stops, Leaves, Restarts, RollsBack}

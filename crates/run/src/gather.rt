@@ -16,7 +16,7 @@ pub struct Aim {
     pub cabinet: u8,
 }
 
-fn is_empty(t: Slot) -> bool
+pub fn is_empty(t: Slot) -> bool
     ensures { λ r. ⌜ r ≡ isEmpty (t .held) ⌝ }
 {
     let h = t.held;
@@ -59,7 +59,7 @@ pub fn free_for(a: Asked, slots: [Slot; 64]) -> u8
     }
 }
 
-fn others_marked(p: u8, cabinets: [Cabinet; 9]) -> u8
+pub fn others_marked(p: u8, cabinets: [Cabinet; 9]) -> u8
     ensures { λ r. ⌜ r ≡ othersFrom p 0 cabinets ⌝ }
 {
     let mut n: u8 = 0;

@@ -7,8 +7,9 @@ use rows::finish;
 use rows::fresh;
 use run::Run;
 ghost use mathlib.Core.Path.{_≡_};
-ghost use Prim.Native.Nat.{_+_, _*_, _≤_, _<_, _^_};
+ghost use Prim.Native.Nat.{_+_, _≤_, _<_, _^_};
 ghost use lib.ListN.{length};
+ghost use Rattle.rows.specs.Machine.{Whole, machOf};
 
 // What is kept, whether there is more to read, and whether the writes went through.
 pub struct Turn {
@@ -28,20 +29,22 @@ fn goes_on(p: Phase) -> bool {
     }
 }
 
-// One read of at most 4,096 bytes, and one write of all that is said of them. A read that fails ends the input; a write that fails ends the program.
+// One read of at most 32,768 bytes, and one write of all that is said of them. A read that fails ends the input; a write that fails ends the program.
 fn one_turn(
     fd: i32,
     part: &mut [u8],
-    line: &mut [u8; 65],
+    line: &mut [u8; 67],
     out: &mut [u8],
     kept: Kept,
     run: Run,
 ) -> Turn
-    requires { ⌜ length (now part) ≤ 4096 ⌝ }
-    requires { ⌜ length (now out) ≡ 282693 ⌝ }
+    requires { ⌜ length (now part) ≤ 32768 ⌝ }
+    requires { ⌜ length (now out) ≡ 2261061 ⌝ }
     requires { ⌜ kept .at ≡ 0 ⌝ }
-    requires { ⌜ kept .row + 4096 < 2 ^ 64 ⌝ }
-    ensures { λ r. ⌜ (r .kept .at ≡ 0) × (r .kept .row ≤ kept .row + 4096) ⌝ }
+    requires { ⌜ kept .row + 32768 < 2 ^ 64 ⌝ }
+    requires { ⌜ Whole (machOf kept (now line) run) ⌝ }
+    ensures { λ r. ⌜ (r .kept .at ≡ 0) × (r .kept .row ≤ kept .row + 32768) ⌝ }
+    ensures { λ r. ⌜ Whole (machOf (r .kept) (now (line .exit)) (r .run)) ⌝ }
 {
     let got = libc::read(fd, part);
     if got <= 0 {
@@ -76,10 +79,11 @@ fn one_turn(
 }
 
 // Nothing says that an input ends, so the loop counts its reads down, from a number that no run uses up.
-fn all_turns(fd: i32, part: &mut [u8], line: &mut [u8; 65], out: &mut [u8]) -> Turn
-    requires { ⌜ length (now part) ≤ 4096 ⌝ }
-    requires { ⌜ length (now out) ≡ 282693 ⌝ }
+fn all_turns(fd: i32, part: &mut [u8], line: &mut [u8; 67], out: &mut [u8]) -> Turn
+    requires { ⌜ length (now part) ≤ 32768 ⌝ }
+    requires { ⌜ length (now out) ≡ 2261061 ⌝ }
     ensures { λ r. ⌜ (r .kept .at ≡ 0) × (r .kept .row + 1 < 2 ^ 64) ⌝ }
+    ensures { λ r. ⌜ Whole (machOf (r .kept) (now (line .exit)) (r .run)) ⌝ }
 {
     let f = fresh();
     let mut kept = f.kept;
@@ -105,16 +109,25 @@ fn all_turns(fd: i32, part: &mut [u8], line: &mut [u8; 65], out: &mut [u8]) -> T
     }
 }
 
-// All that a descriptor gives. The buffer has 69 bytes for each byte of a part, and 69 more: see `rows::feed`.
-pub fn rehearse(fd: i32) {
-    let mut part = [0u8; 4096];
-    let mut out = [0u8; 282693];
-    let mut line = [0u8; 65];
-    let t = all_turns(fd, &mut part, &mut line, &mut out);
+// All that a descriptor gives, and its end.
+fn all_bytes(fd: i32, part: &mut [u8], line: &mut [u8; 67], out: &mut [u8])
+    requires { ⌜ length (now part) ≤ 32768 ⌝ }
+    requires { ⌜ length (now out) ≡ 2261061 ⌝ }
+{
+    let t = all_turns(fd, part, line, out);
     if t.sound {
         let k = t.kept;
         let r = t.run;
-        let end = finish(&line, &mut out, k, r);
+        let end = finish(line, out, k, r);
         io::write_all(STDOUT_FILENO, &out[..end]);
     }
+}
+
+// The buffers of the rehearsal of a descriptor. What is said has 69 bytes for each byte of a part, and 69 more: see `rows::feed`. They are made apart
+// from their use, since a proof that reads their length must not count them out.
+pub fn rehearse(fd: i32) {
+    let mut part = [0u8; 32768];
+    let mut out = [0u8; 2261061];
+    let mut line = [0u8; 67];
+    all_bytes(fd, &mut part, &mut line, &mut out);
 }

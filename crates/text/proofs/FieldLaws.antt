@@ -4,7 +4,7 @@ use native.Mathlib.Numerals.{add-one}
 use native.Mathlib.Omega.{arith}
 use mathlib.Core.Bool.{Bool, true, false, cond, _&&_}
 use mathlib.Core.List.{List, [], _∷_, _++_}
-use mathlib.Core.Path.{_≡_, refl, sym, _∙_}
+use mathlib.Core.Path.{_≡_, refl, sym, _∙_, ap}
 use lib.ListN.{length, take, drop, length-drop}
 use lib.Seq.{take-all}
 use lib.Dec.{eqb}
@@ -83,6 +83,46 @@ after-some (b ∷ l) h = rw add-one (go (eqb b 44) h (after-some l))
         → cond t l (after l) ≡ drop (suc (length (cond t [] (b ∷ first l)))) (b ∷ l)
     go true h f = refl
     go false h f = f (omega arith) ∙ rw add-one
+
+-- the first field, and what stands behind it
+pub first-rest : (l : List ℕ) → l ≡ first l ++ drop (length (first l)) l
+unfolding first
+first-rest [] = refl
+first-rest (b ∷ l) = go (eqb b 44) (first-rest l)
+  where
+    go : (t : Bool) → l ≡ first l ++ drop (length (first l)) l
+        → _≡_ {A = List ℕ} (b ∷ l) (cond t [] (b ∷ first l) ++ drop (length (cond t [] (b ∷ first l))) (b ∷ l))
+    go true e = refl
+    go false e = ap (λ (m : List ℕ). b ∷ m) e
+
+pub first-after : (l : List ℕ) → length (first l) < length l → l ≡ first l ++ (44 ∷ after l)
+unfolding first after
+first-after [] h = absurd (omega arith)
+first-after (b ∷ l) h = go (eqb b 44) refl h (first-after l)
+  where
+    go : (t : Bool) → eqb b 44 ≡ t → length (cond t [] (b ∷ first l)) < suc (length l) → (length (first l) < length l → l ≡ first l ++ (44 ∷ after l))
+        → _≡_ {A = List ℕ} (b ∷ l) (cond t [] (b ∷ first l) ++ (44 ∷ cond t l (after l)))
+    go true p h f = let e : b ≡ 44 = eqb-true b 44 p in cc
+    go false p h f = ap (λ (m : List ℕ). b ∷ m) (f (omega arith))
+
+-- the first field with other bytes behind its comma
+pub first-again : (l z : List ℕ) → first (first l ++ (44 ∷ z)) ≡ first l
+unfolding first
+first-again [] z = refl
+first-again (b ∷ l) z = go (eqb b 44) refl (first-again l z)
+  where
+    go : (t : Bool) → eqb b 44 ≡ t → first (first l ++ (44 ∷ z)) ≡ first l → first (cond t [] (b ∷ first l) ++ (44 ∷ z)) ≡ cond t [] (b ∷ first l)
+    go true p e = refl
+    go false p e = rw (p, e)
+
+pub after-again : (l z : List ℕ) → after (first l ++ (44 ∷ z)) ≡ z
+unfolding first after
+after-again [] z = refl
+after-again (b ∷ l) z = go (eqb b 44) refl (after-again l z)
+  where
+    go : (t : Bool) → eqb b 44 ≡ t → after (first l ++ (44 ∷ z)) ≡ z → after (cond t [] (b ∷ first l) ++ (44 ∷ z)) ≡ z
+    go true p e = refl
+    go false p e = rw p e
 
 -- ---- fields that are not used
 

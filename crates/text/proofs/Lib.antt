@@ -1,3 +1,4 @@
+pub mod AheadLaws
 pub mod BytesLaws
 pub mod Decides
 pub mod FieldLaws

@@ -10,13 +10,13 @@ use borrow.Author.Tests.{ne-eqb, le-leb, lt-leb}
 use Rattle.text.specs.Fields.{same, split}
 use Rattle.text.specs.Pieces.{begins, first, headIf, noHead, headIn, leadBy}
 use Rattle.text.specs.Rows.{rowAs, rowBy, rowOfFields, rowOf}
-use Rattle.text.specs.Words.{Named, kindIn, kinds}
+use Rattle.text.specs.Words.{Named, named, kindIn, kinds}
 use Rattle.text.specs.declared.row.Row.{Row}
 use Rattle.text.specs.declared.row.Row.the-variants.{Other}
 use Rattle.text.specs.declared.word.Head.{Head}
 use Rattle.text.specs.declared.word.Kind.{Kind}
 use Rattle.text.specs.declared.word.Kind.the-variants.{NoKind}
-use Rattle.text.proofs.BytesLaws.{same-is, begins-fits}
+use Rattle.text.proofs.BytesLaws.{same-is, begins-fits, begins-is}
 use Rattle.text.proofs.FieldLaws.{from, from-is, others, more, split-is, others-some, after-some, plain, begins-word, more-yes, more-no}
 
 -- ---- by the first byte
@@ -39,6 +39,14 @@ by-lead (n ∷ ns) (c ∷ m) b h e = go (n .word) (by-lead ns (c ∷ m) b h e)
     go : (w : List ℕ) → headIn (leadBy b ns) (c ∷ m) ≡ headIn ns (c ∷ m) → headIn (leadBy b (with w ∷ ns)) (c ∷ m) ≡ headIn (with w ∷ ns) (c ∷ m)
     go [] f = rw f
     go (x ∷ v) f = pick x v (eqb b x) refl f
+
+-- of the words with one first byte, the first is the head of each line that begins with it and a comma
+pub by-first : (ns : List Named) (l : List ℕ) (b : ℕ) (v : List ℕ) (k : Kind) (ms : List Named) → leadBy b ns ≡ named (b ∷ v) k ∷ ms
+    → begins l (b ∷ (v ++ (44 ∷ []))) ≡ true → headIn ns l ≡ record { kind = k; end = length (b ∷ v) + 1 }
+unfolding headIn
+by-first ns l b v k ms f e =
+    let w = b ∷ (v ++ (44 ∷ [])) in
+    sym (by-lead ns l b (omega (arith, begins-fits l w e)) (ap (λ (z : List ℕ). getD z 0 0) (begins-is l w e))) ∙ rw (f, e)
 
 -- no word begins with another byte than these six
 pub by-none : (l : List ℕ) → 0 < length l → (b : ℕ) → getD l 0 0 ≡ b

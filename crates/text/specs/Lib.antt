@@ -1,3 +1,4 @@
+pub mod Ahead
 pub mod Fields
 pub mod Pieces
 pub mod Rows

@@ -23,7 +23,7 @@ pub enum Row {
 
 pub const MOST_BYTES: usize = 64;
 
-fn one_step(k: Single, a: u8) -> Step
+pub fn one_step(k: Single, a: u8) -> Step
     ensures { λ r. ⌜ r ≡ oneStep k a ⌝ }
 {
     match k {
@@ -36,7 +36,7 @@ fn one_step(k: Single, a: u8) -> Step
     }
 }
 
-fn two_step(k: Double, a: u8, b: u8) -> Step
+pub fn two_step(k: Double, a: u8, b: u8) -> Step
     ensures { λ r. ⌜ r ≡ twoStep k a b ⌝ }
 {
     match k {

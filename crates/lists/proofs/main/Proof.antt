@@ -1,11 +1,8 @@
+-- `main` ends: its arguments run out. Assumes nothing.
 use Prim.Native.Nat.{_-_}
 use borrow.Author.Needs.{needs}
 use Rattle.lists.proofs.main.Statement.{statement}
 use Rattle.lists.proofs.main.Tie as tie
-use Rattle.lists.proofs.main.Reads as reads
-use Rattle.lists.proofs.main.Lts as lts
-use Rattle.lists.proofs.one.Reads as one-reads
-use Rattle.os.proofs.arg_count.Reads as arg-count-reads
 
 abbrev Inv-loop : tie.InvT-loop
 Inv-loop n i₀ i = Unit {0}
@@ -13,31 +10,24 @@ Inv-loop n i₀ i = Unit {0}
 abbrev μ-loop : tie.MeasureT-loop
 μ-loop n i₀ i = n - i
 
--- src/main.rt:24:9
 arg-count-requires : tie.Need-arg-count-requires Inv-loop μ-loop
 arg-count-requires c κs = search needs
 
--- src/main.rt:26:5
 loop-holds : tie.Need-loop-holds Inv-loop μ-loop
 loop-holds c = search needs
 
--- src/main.rt:27:9
 one-requires : tie.Need-one-requires Inv-loop μ-loop
 one-requires c κs = search needs
 
--- src/main.rt:28:9
 add-i : tie.Need-add-i Inv-loop μ-loop
 add-i c = search needs
 
--- src/main.rt:26:5
 loop-less : tie.Need-loop-less Inv-loop μ-loop
 loop-less c = search needs
 
--- src/main.rt:26:5
 loop-again : tie.Need-loop-again Inv-loop μ-loop
 loop-again c = search needs
 
--- src/main.rt:23:1
 returns : tie.Need-returns Inv-loop μ-loop
 returns c = search needs
 

@@ -1,17 +1,15 @@
 -- `end` meets its contract. Assumes nothing.
+use mathlib.Core.Path.{sym}
 use borrow.Author.Needs.{needs}
 use Rattle.client.proofs.HearLaws.{end-is}
 use Rattle.client.proofs.hear.end.Statement.{statement}
 use Rattle.client.proofs.hear.end.Tie as tie
 
-add-t8 : tie.Need-add-t8
-add-t8 c = search needs
-
 none-requires : tie.Need-none-requires
 none-requires c κs = search needs
 
 returns : tie.Need-returns
-returns c = let a = c .before .args in end-is (a .i) (a .j) (a .operation) (a .how) (a .shown) (a .next) (a .best) _ (c .none .ensures)
+returns c = let a = c .before .args in λ i j. sym (end-is i j (a .operation) (a .how) (a .shown) (a .next) (a .best) _ (c .none .ensures))
 
 pub end-spec : {M : Type 1} → statement M
-end-spec = tie.close (tie.spec add-t8 none-requires returns)
+end-spec = tie.close (tie.spec none-requires returns)

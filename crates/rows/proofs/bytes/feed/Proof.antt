@@ -1,65 +1,74 @@
--- `rows::bytes::feed` meets its contract. The loop's invariant: the bytes passed are answered, and there is room for the others. Assumes nothing.
-use Prim.Native.Nat.{_-_}
-use borrow.Author.Needs.{needs}
-use lib.ListN.{length, take}
+-- `rows::bytes::feed` meets its contract: the bytes before the first whole step row, the whole rows, and the bytes behind them. Assumes nothing.
+use Rattle.rows.specs.Machine.{machOf}
+use Rattle.rows.proofs.WholeLaws.{whole-at}
+use Rattle.rows.proofs.TookLaws.{step-sound, all-led, fed-on}
+use Rattle.rows.proofs.BreakLaws.{part-all, rest-most}
+use mathlib.Core.Path.{_≡_, sym, _∙_}
 use lib.Seq.{take-all}
-use mathlib.Core.Logic.{⊎-elim}
-use mathlib.Core.Path.{_≡_, refl}
+use lib.ListN.{length, take, drop}
+use Prim.Native.Nat.{_-_}
 use native.Mathlib.Omega.{arith}
-use Rattle.rows.proofs.MachineLaws.{Going, going-lf, going-in, feed-none}
+use borrow.Author.Needs.{needs}
 use Rattle.rows.proofs.bytes.feed.Statement.{statement}
 use Rattle.rows.proofs.bytes.feed.Tie as tie
-use Rattle.rows.specs.Machine.{machOf}
 
-abbrev Inv-loop : tie.InvT-loop
-Inv-loop s line₀ out₀ k₀ held₀ i₀ line out k held i = Going s out₀ k₀ (machOf k₀ line₀ held₀) i line out k held
+lead-requires : tie.Need-lead-requires
+lead-requires c κs = search needs
 
-abbrev μ-loop : tie.MeasureT-loop
-μ-loop s line₀ out₀ k₀ held₀ i₀ line out k held i = length s - i
+sub-rest : tie.Need-sub-rest
+sub-rest c = search needs
 
-loop-holds : tie.Need-loop-holds Inv-loop μ-loop
-loop-holds c = let q = feed-none (machOf (c .before .before .args .kept) (c .before .before .args .line .now) (c .before .before .args .run)) (c .before .before .args .out .now) (c .before .before .args .kept .at) in (omega arith, refl, omega arith, omega arith, q .0, q .1 .0, q .1 .1, (c .before .before .pre .0), (c .before .before .pre .1))
+part-rest-start : tie.Need-part-rest-start
+part-rest-start c = search needs
 
-shared-slice-read-if1 : tie.Need-shared-slice-read-if1 Inv-loop μ-loop
-shared-slice-read-if1 c = omega arith
+part-rest-end : tie.Need-part-rest-end
+part-rest-end c = search needs
 
-end-line-requires : tie.Need-end-line-requires Inv-loop μ-loop
-end-line-requires c κs = (omega arith, omega arith)
+at-step-requires : tie.Need-at-step-requires
+at-step-requires c κs = search needs
 
-shared-slice-read-push : tie.Need-shared-slice-read-push Inv-loop μ-loop
-shared-slice-read-push c = omega arith
+steps-requires : tie.Need-steps-requires
+steps-requires c κs = let o = rest-most (c .before .before .before .before .before .before .before .before .before .before .before .before .before .args .s .now) (c .before .before .before .before .before .before .before .before .lead .result .used) in (omega (arith, o, c .before .before .before .before .before .before .before .before .lead .ensures .1 .1 .1 .0 .0, c .before .before .before .before .before .before .before .before .lead .ensures .1 .1 .1 .0 .1, c .before .before .before .before .before .before .before .before .lead .ensures .1 .1 .1 .1 .0, c .before .before .before .before .before .before .before .out .given, c .before .before .before .before .before .before .before .before .before .before .before .before .before .pre .0, c .before .before .before .before .before .before .before .before .before .before .before .before .before .pre .1 .0), (omega (arith, o, c .before .before .before .before .before .before .before .before .lead .ensures .1 .1 .1 .0 .0, c .before .before .before .before .before .before .before .before .lead .ensures .1 .1 .1 .0 .1, c .before .before .before .before .before .before .before .before .lead .ensures .1 .1 .1 .1 .0, c .before .before .before .before .before .before .before .out .given, c .before .before .before .before .before .before .before .before .before .before .before .before .before .pre .0, c .before .before .before .before .before .before .before .before .before .before .before .before .before .pre .1 .0), step-sound (c .before .before .before .before .before .before .before .before .lead .result .kept .phase) (c .before .before .before .before .before .before .before .before .lead .result .kept .len) (c .before .before .before .before .before .before .before .before .lead .result .run) (sym (c .before .before .at-step .ensures) ∙ c .before .if1 .taken) (whole-at (machOf (c .before .before .before .before .before .before .before .before .before .before .before .before .before .args .kept) (c .before .before .before .before .before .before .before .before .before .before .before .before .before .args .line .now) (c .before .before .before .before .before .before .before .before .before .before .before .before .before .args .run)) _ (take (c .before .before .before .before .before .before .before .before .lead .result .used) (c .before .before .before .before .before .before .before .before .before .before .before .before .before .args .s .now)) (c .before .before .before .before .before .before .before .before .before .before .before .before .before .pre .1 .1) (c .before .before .before .before .before .before .before .before .lead .ensures .0) .0)))
 
-push-requires : tie.Need-push-requires Inv-loop μ-loop
-push-requires c κs = search needs
+sub-hold : tie.Need-sub-hold
+sub-hold c = search needs
 
-add-i : tie.Need-add-i Inv-loop μ-loop
-add-i c = omega arith
+part-hold-start : tie.Need-part-hold-start
+part-hold-start c = search needs
 
-loop-less : tie.Need-loop-less Inv-loop μ-loop
-loop-less c = omega arith
+part-hold-end : tie.Need-part-hold-end
+part-hold-end c = search needs
 
-loop-again : tie.Need-loop-again Inv-loop μ-loop
-loop-again c = ⊎-elim (λ w. rw (w .8, w .9, w .10, w .11) (going-lf (c .before .before .before .before .before .before .args .s .now) (c .before .before .before .before .before .before .args .out .now) (c .before .before .before .before .before .before .args .kept) (machOf (c .before .before .before .before .before .before .args .kept) (c .before .before .before .before .before .before .args .line .now) (c .before .before .before .before .before .before .args .run)) (c .before .before .before .loop .i) (c .before .before .before .loop .line) (c .before .before .before .loop .out) (c .before .before .before .loop .k) (c .before .before .before .loop .held) _ (w .3 .result) (c .before .before .before .loop .inv) (c .before .before .loop-test .taken) (w .0 .taken) (w .3 .ensures))) (λ w. rw (w .4, w .5, w .6, w .7) (going-in (c .before .before .before .before .before .before .args .s .now) (c .before .before .before .before .before .before .args .out .now) (c .before .before .before .before .before .before .args .kept) (machOf (c .before .before .before .before .before .before .args .kept) (c .before .before .before .before .before .before .args .line .now) (c .before .before .before .before .before .before .args .run)) (c .before .before .before .loop .i) (c .before .before .before .loop .line) (c .before .before .before .loop .out) (c .before .before .before .loop .k) (c .before .before .before .loop .held) (w .3 .result) _ (c .before .before .before .loop .inv) (c .before .before .loop-test .taken) (w .0 .left) (w .3 .ensures))) ((c .if1 .came))
+hold-requires : tie.Need-hold-requires
+hold-requires c κs = rw (part-all (take (length (c .before .before .before .before .before .before .before .before .before .before .before .before .before .before .before .before .before .before .before .args .s .now) - c .before .before .before .before .before .before .before .before .before .before .before .before .before .before .lead .result .used) (drop (c .before .before .before .before .before .before .before .before .before .before .before .before .before .before .lead .result .used) (c .before .before .before .before .before .before .before .before .before .before .before .before .before .before .before .before .before .before .before .args .s .now))) (c .before .before .before .before .before .steps .result .used)) (c .before .before .before .before .before .steps .ensures .rest)
 
-same-length : tie.Need-same-length Inv-loop μ-loop
-same-length c = omega arith
+same-length : tie.Need-same-length
+same-length c = search needs
 
-returns : tie.Need-returns Inv-loop μ-loop
-returns c = let v = (c .before .loop .inv) in let e : take (c .before .loop .i) (c .before .before .before .before .args .s .now) ≡ (c .before .before .before .before .args .s .now) = take-all (c .before .loop .i) (c .before .before .before .before .args .s .now) (c .loop-test .left) in (rw e at (v .4), (rw e at (v .5), (rw e at (v .6), (omega arith, omega arith))))
+returns : tie.Need-returns
+returns c = let o = rest-most (c .before .before .before .before .before .before .before .before .before .before .before .before .before .before .before .before .before .before .before .before .args .s .now) (c .before .before .before .before .before .before .before .before .before .before .before .before .before .before .before .lead .result .used) in let q = fed-on (machOf (c .before .before .before .before .before .before .before .before .before .before .before .before .before .before .before .before .before .before .before .before .args .kept) (c .before .before .before .before .before .before .before .before .before .before .before .before .before .before .before .before .before .before .before .before .args .line .now) (c .before .before .before .before .before .before .before .before .before .before .before .before .before .before .before .before .before .before .before .before .args .run)) (c .before .before .before .before .before .before .before .before .before .before .before .before .before .before .before .before .before .before .before .before .args .s .now) (c .before .before .before .before .before .before .before .before .before .before .before .before .before .before .before .lead .result .used) (c .before .before .before .before .before .before .before .before .before .before .before .before .before .before .before .lead .result .kept) _ _ (c .before .before .before .before .before .before .before .before .before .before .before .before .before .before .before .lead .result .run) (c .before .before .before .before .before .before .steps .result) (c .before .before .before .before .before .before .before .before .before .before .before .before .before .before .before .before .before .before .before .before .args .out .now) _ _ (c .before .before .before .before .before .before .before .before .before .before .before .before .before .before .before .before .before .before .before .before .args .kept .at) (c .hold .result) (take (length (c .before .before .before .before .before .before .before .before .before .before .before .before .before .before .before .before .before .before .before .before .args .s .now) - c .before .before .before .before .before .before .before .before .before .before .before .before .before .before .before .lead .result .used) (drop (c .before .before .before .before .before .before .before .before .before .before .before .before .before .before .before .lead .result .used) (c .before .before .before .before .before .before .before .before .before .before .before .before .before .before .before .before .before .before .before .before .args .s .now))) _ (part-all (c .before .before .before .before .before .before .before .before .before .before .before .before .before .before .before .before .before .before .before .before .args .s .now) (c .before .before .before .before .before .before .before .before .before .before .before .before .before .before .before .lead .result .used)) (part-all (take (length (c .before .before .before .before .before .before .before .before .before .before .before .before .before .before .before .before .before .before .before .before .args .s .now) - c .before .before .before .before .before .before .before .before .before .before .before .before .before .before .before .lead .result .used) (drop (c .before .before .before .before .before .before .before .before .before .before .before .before .before .before .before .lead .result .used) (c .before .before .before .before .before .before .before .before .before .before .before .before .before .before .before .before .before .before .before .before .args .s .now))) (c .before .before .before .before .before .before .steps .result .used)) (c .before .before .before .before .before .before .before .before .before .before .before .before .before .before .before .lead .ensures .0) (c .before .before .before .before .before .before .before .before .before .before .before .before .before .before .before .lead .ensures .1 .0, c .before .before .before .before .before .before .before .before .before .before .before .before .before .before .before .lead .ensures .1 .1 .0) (sym (c .before .before .before .before .before .before .before .before .before .at-step .ensures) ∙ c .before .before .before .before .before .before .before .before .if1 .taken) (c .before .before .before .before .before .before .steps .ensures) (c .hold .ensures) (omega (arith, c .before .before .before .before .before .before .before .before .before .before .before .before .before .before .before .before .before .before .before .before .pre .0)) in (q .0, (q .1 .0, (q .1 .1, ((omega (arith, o, c .before .before .before .before .before .before .before .before .before .before .before .before .before .before .before .lead .ensures .1 .1 .1 .0 .0, c .before .before .before .before .before .before .before .before .before .before .before .before .before .before .before .lead .ensures .1 .1 .1 .0 .1, c .before .before .before .before .before .before .before .before .before .before .before .before .before .before .before .lead .ensures .1 .1 .1 .1 .0, c .before .before .before .before .before .before .before .before .before .before .before .before .before .before .out .given, c .before .before .before .before .before .before .before .before .before .before .before .before .before .before .before .before .before .before .before .before .pre .0, c .before .before .before .before .before .before .before .before .before .before .before .before .before .before .before .before .before .before .before .before .pre .1 .0, c .before .before .before .before .before .before .steps .ensures .room), omega (arith, o, c .before .before .before .before .before .before .before .before .before .before .before .before .before .before .before .lead .ensures .1 .1 .1 .0 .0, c .before .before .before .before .before .before .before .before .before .before .before .before .before .before .before .lead .ensures .1 .1 .1 .0 .1, c .before .before .before .before .before .before .before .before .before .before .before .before .before .before .before .lead .ensures .1 .1 .1 .1 .0, c .before .before .before .before .before .before .before .before .before .before .before .before .before .before .out .given, c .before .before .before .before .before .before .before .before .before .before .before .before .before .before .before .before .before .before .before .before .pre .0, c .before .before .before .before .before .before .before .before .before .before .before .before .before .before .before .before .before .before .before .before .pre .1 .0, c .before .before .before .before .before .before .steps .ensures .rows)), whole-at (machOf (c .before .before .before .before .before .before .before .before .before .before .before .before .before .before .before .before .before .before .before .before .args .kept) (c .before .before .before .before .before .before .before .before .before .before .before .before .before .before .before .before .before .before .before .before .args .line .now) (c .before .before .before .before .before .before .before .before .before .before .before .before .before .before .before .before .before .before .before .before .args .run)) _ (c .before .before .before .before .before .before .before .before .before .before .before .before .before .before .before .before .before .before .before .before .args .s .now) (c .before .before .before .before .before .before .before .before .before .before .before .before .before .before .before .before .before .before .before .before .pre .1 .1) (q .0)))))
+
+same-length-2 : tie.Need-same-length-2
+same-length-2 c = search needs
+
+returns-2 : tie.Need-returns-2
+returns-2 c = let e : take (c .before .before .before .before .before .before .before .lead .result .used) (c .before .before .before .before .before .before .before .before .before .before .before .before .args .s .now) ≡ c .before .before .before .before .before .before .before .before .before .before .before .before .args .s .now = take-all (c .before .before .before .before .before .before .before .lead .result .used) (c .before .before .before .before .before .before .before .before .before .before .before .before .args .s .now) (all-led _ _ _ (sym (c .before .at-step .ensures) ∙ c .if1 .left) (c .before .before .before .before .before .before .before .lead .ensures .1 .1 .1 .1 .1)) in let q = rw e at (c .before .before .before .before .before .before .before .lead .ensures .0) in (q, (rw e at (c .before .before .before .before .before .before .before .lead .ensures .1 .0), (rw e at (c .before .before .before .before .before .before .before .lead .ensures .1 .1 .0), ((omega (arith, c .before .before .before .before .before .before .before .lead .ensures .1 .1 .1 .0 .0, c .before .before .before .before .before .before .before .lead .ensures .1 .1 .1 .1 .0), omega (arith, c .before .before .before .before .before .before .before .lead .ensures .1 .1 .1 .0 .1, c .before .before .before .before .before .before .before .lead .ensures .1 .1 .1 .1 .0)), whole-at (machOf (c .before .before .before .before .before .before .before .before .before .before .before .before .args .kept) (c .before .before .before .before .before .before .before .before .before .before .before .before .args .line .now) (c .before .before .before .before .before .before .before .before .before .before .before .before .args .run)) _ (c .before .before .before .before .before .before .before .before .before .before .before .before .args .s .now) (c .before .before .before .before .before .before .before .before .before .before .before .before .pre .1 .1) q))))
 
 pub feed-spec : {M : Type 1} → statement M
 feed-spec =
     tie.close
     (tie.spec
-    Inv-loop
-    μ-loop
-    loop-holds
-    shared-slice-read-if1
-    end-line-requires
-    shared-slice-read-push
-    push-requires
-    add-i
-    loop-less
-    loop-again
+    lead-requires
+    sub-rest
+    part-rest-start
+    part-rest-end
+    at-step-requires
+    steps-requires
+    sub-hold
+    part-hold-start
+    part-hold-end
+    hold-requires
     same-length
-    returns)
+    returns
+    same-length-2
+    returns-2)

@@ -1,6 +1,5 @@
 -- `start` meets its contract. Assumes nothing.
 use borrow.Author.Needs.{needs}
-use mathlib.Core.Path.{_∙_}
 use Rattle.run.proofs.StartLaws.{start-is}
 use Rattle.run.proofs.fresh.start.Statement.{statement}
 use Rattle.run.proofs.fresh.start.Tie as tie

@@ -1,0 +1,128 @@
+// A list through both entrances: its second row plans the run, and every row after that is a step of it.
+use super::both;
+use super::both::Both;
+use super::line::line_from;
+use parts::Step;
+use plan::Planned;
+use text::Row;
+ghost use mathlib.Core.Path.{_≡_};
+ghost use Prim.Native.Nat.{_+_, _≤_};
+ghost use lib.ListN.{length};
+
+// The first row that differs is counted from the plan, as in a transcript; 0: none does.
+pub struct Tally {
+    pub begun: bool,
+    pub accepted: u64,
+    pub refused: u64,
+    pub differs: u64,
+}
+
+fn nothing(begun: bool) -> Tally
+    ensures { λ r. ⌜ r .accepted + r .refused ≡ 0 ⌝ }
+{
+    Tally {
+        begun: begun,
+        accepted: 0,
+        refused: 0,
+        differs: 0,
+    }
+}
+
+// The plan is row 1, so the first step is row 2.
+fn first_row(t: Tally, same: bool) -> u64
+    requires { ⌜ t .accepted + t .refused ≤ 65536 ⌝ }
+{
+    if same {
+        return t.differs;
+    }
+    if 0 < t.differs {
+        return t.differs;
+    }
+    t.accepted + t.refused + 2
+}
+
+fn counted(t: Tally, number: u8, same: bool) -> Tally
+    requires { ⌜ t .accepted + t .refused ≤ 65536 ⌝ }
+    ensures { λ r. ⌜ r .accepted + r .refused ≡ t .accepted + t .refused + 1 ⌝ }
+{
+    let row = first_row(t, same);
+    if number == 0 {
+        return Tally {
+            begun: t.begun,
+            accepted: t.accepted + 1,
+            refused: t.refused,
+            differs: row,
+        };
+    }
+    Tally {
+        begun: t.begun,
+        accepted: t.accepted,
+        refused: t.refused + 1,
+        differs: row,
+    }
+}
+
+// A row of no step is taken as a step of no known kind, which both entrances answer 2.
+fn step_of(r: Row) -> Step {
+    match r {
+        Row::Other => Step::Other,
+        Row::Plan(_, _, _, _) => Step::Other,
+        Row::Step(s) => s,
+    }
+}
+
+fn steps(s: &[u8], from: usize, begun: Both) -> Tally
+    requires { ⌜ (from ≤ length (now s)) × (length (now s) ≤ 65536) ⌝ }
+    ensures { λ r. ⌜ r .accepted + r .refused ≤ 65536 ⌝ }
+{
+    let mut b = begun;
+    let mut t = nothing(true);
+    let mut at = from;
+    while at < s.len() {
+        let l = line_from(s, at);
+        let to = l.to;
+        let z = both::step(b, step_of(text::parse(&s[at..to])));
+        let next = z.both;
+        b = next;
+        t = counted(t, z.number, z.same);
+        at = l.next;
+    }
+    t
+}
+
+// The rows behind the plan, if it is accepted.
+fn planned(s: &[u8], from: usize, row: Row) -> Tally
+    requires { ⌜ (from ≤ length (now s)) × (length (now s) ≤ 65536) ⌝ }
+    ensures { λ r. ⌜ r .accepted + r .refused ≤ 65536 ⌝ }
+{
+    match row {
+        Row::Other => nothing(false),
+        Row::Plan(n, k, r, b) => {
+            let z = run::start(n, k, r, b);
+            let p = z.planned;
+            let fresh = z.run;
+            match p {
+                Planned::OutOfRange => nothing(false),
+                Planned::TooSmall => nothing(false),
+                Planned::Accepted(_) => steps(s, from, both::begin(fresh)),
+            }
+        }
+        Row::Step(_) => nothing(false),
+    }
+}
+
+// A list is held whole, in a buffer of 65,536 bytes, so that its steps can be counted.
+pub fn compare(s: &[u8]) -> Tally
+    requires { ⌜ length (now s) ≤ 65536 ⌝ }
+    ensures { λ r. ⌜ r .accepted + r .refused ≤ 65536 ⌝ }
+{
+    let head = line_from(s, 0);
+    let to = head.to;
+    if text::is_header(&s[..to]) {
+        let at = head.next;
+        let l = line_from(s, at);
+        let end = l.to;
+        return planned(s, l.next, text::parse(&s[at..end]));
+    }
+    nothing(false)
+}

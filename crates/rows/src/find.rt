@@ -1,0 +1,82 @@
+// The next whole row of a part of the input, where steps are due.
+use super::line::trim;
+use parts::Step;
+use text::Ahead;
+use text::Row;
+use text::step_ahead;
+ghost use mathlib.Core.Path.{_≡_};
+ghost use Prim.Native.Nat.{_≤_, _<_, _-_};
+ghost use lib.ListN.{length, getD, take, drop};
+ghost use Rattle.text.specs.Ahead.{breaks};
+ghost use Rattle.text.specs.Rows.{rowOf};
+ghost use Rattle.rows.specs.Machine.{OneRow, stepIn};
+
+// The step, `Other` where the row is none, and the place behind the row's LF; the place where it begins, if no LF comes.
+pub struct Found {
+    pub step: Step,
+    pub end: usize,
+}
+
+// Where the next LF is, or the end.
+fn line_end(s: &[u8], from: usize) -> usize
+    requires { ⌜ from ≤ length (now s) ⌝ }
+    ensures { λ r. ⌜ (from ≤ r) × (r ≤ length (now (s .entry))) ⌝ }
+    ensures { λ r. ⌜ breaks (take (r - from) (drop from (now (s .entry)))) ≡ 0 ⌝ }
+    ensures { λ r. ⌜ (r < length (now (s .entry)) → getD (now (s .entry)) r 0 ≡ 10) ⌝ }
+{
+    let mut i = from;
+    while i < s.len() {
+        if s[i] == b'\n' {
+            break;
+        }
+        i += 1;
+    }
+    i
+}
+
+// A row that is no step is answered as a step of no known kind.
+fn step_in(l: &[u8]) -> Step
+    ensures { λ r. ⌜ r ≡ stepIn (rowOf (now (l .entry))) ⌝ }
+{
+    match text::parse(l) {
+        Row::Other => Step::Other,
+        Row::Plan(_, _, _, _) => Step::Other,
+        Row::Step(x) => x,
+    }
+}
+
+fn by_end(s: &[u8], i: usize) -> Found
+    requires { ⌜ i ≤ length (now s) ⌝ }
+    ensures { λ r. ⌜ (i ≤ r .end) × (r .end ≤ length (now (s .entry))) ⌝ }
+    ensures { λ r. ⌜ (r .end ≤ i → breaks (drop i (now (s .entry))) ≡ 0) ⌝ }
+    ensures { λ r. ⌜ (i < r .end → OneRow (take (r .end - i) (drop i (now (s .entry)))) (r .step)) ⌝ }
+{
+    let e = line_end(s, i);
+    if e == s.len() {
+        return Found {
+            step: Step::Other,
+            end: i,
+        };
+    }
+    let l = &s[i..e];
+    let n = trim(l);
+    Found {
+        step: step_in(&l[..n]),
+        end: e + 1,
+    }
+}
+
+pub fn find(s: &[u8], i: usize) -> Found
+    requires { ⌜ i ≤ length (now s) ⌝ }
+    ensures { λ r. ⌜ (i ≤ r .end) × (r .end ≤ length (now (s .entry))) ⌝ }
+    ensures { λ r. ⌜ (r .end ≤ i → breaks (drop i (now (s .entry))) ≡ 0) ⌝ }
+    ensures { λ r. ⌜ (i < r .end → OneRow (take (r .end - i) (drop i (now (s .entry)))) (r .step)) ⌝ }
+{
+    match step_ahead(&s[i..]) {
+        Ahead::Unclear => by_end(s, i),
+        Ahead::Whole(x, n) => Found {
+            step: x,
+            end: i + n,
+        },
+    }
+}
