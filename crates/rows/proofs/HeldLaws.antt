@@ -9,13 +9,13 @@ use lib.ListN.{length, take, getD, length-append}
 use lib.Seq.{length-take-le, take-suc}
 use lib.Dec.{eqb, leb, ltb}
 use borrow.Author.Tests.{le-leb, lt-leb, leb-false, ltb-true, ltb-false}
+use Rattle.text.specs.Ends.{unended}
 use Rattle.text.specs.Words.{header}
 use Rattle.text.specs.Rows.{rowOf, isHeader}
 use Rattle.text.specs.declared.row.Row.{Row}
 use Rattle.text.specs.declared.row.Row.the-variants.{Other}
 use Rattle.text.proofs.BytesLaws.{same-lengths}
 use Rattle.rows.specs.Machine.{Held, Line, Over, short, rowIn, headIn, push, heldOf}
-use Rattle.rows.specs.Rehearsal.{unended}
 
 abbrev pub holds : List ℕ → Held
 holds l = cond (leb (length l) 65) (Line l) Over

@@ -1,10 +1,7 @@
-pub mod BreakLaws
 pub mod Decides
 pub mod HeldLaws
 pub mod MachineLaws
 pub mod RehearsalLaws
 pub mod RowLaws
-pub mod TakingLaws
 pub mod TookLaws
-pub mod TurnLaws
 pub mod WholeLaws

@@ -1,12 +1,12 @@
 -- Laws of the machine, as the code has it: a row, a row's end, one byte, several, and the input's end.
-use Prim.Native.Nat.{ℕ, zero, suc, _+_, _*_, _-_, _^_, _<_, _≤_}
+use Prim.Native.Nat.{ℕ, zero, suc, _+_, _*_, _^_, _<_, _≤_}
 use native.Mathlib.Numerals.{add-one}
 use native.Mathlib.Omega.{arith}
 use mathlib.Core.Bool.{Bool, true, false, cond}
 use mathlib.Core.List.{List, [], _∷_, _++_, append-assoc, append-nil}
 use mathlib.Core.Path.{_≡_, refl, sym, _∙_, ap}
 use lib.ListN.{length, getD, set, take}
-use lib.Seq.{take-suc, take-suc-set, length-take-le, take-length}
+use lib.Seq.{take-suc, take-suc-set, length-take-le}
 use lib.Dec.{leb}
 use borrow.Author.Tests.{lt-ltb, le-ltb, le-leb, lt-leb, eq-eqb, ne-eqb, leb-true}
 use Rattle.parts.specs.declared.step.Step.{Step}
@@ -23,7 +23,7 @@ use Rattle.rows.specs.declared.Kept.{Kept}
 use Rattle.rows.specs.declared.Phase.{Phase}
 use Rattle.rows.specs.declared.Phase.the-variants.{Header, Planning, Running, Ended}
 use Rattle.rows.specs.Machine.{Held, Line, Over, Mach, pickHeld, short, rowIn, headIn, startPhase, nextPhase, nextRow, nextRun, sayLine, push, ended, stepM, sayM, runM, sayAll, endBy, heldOf, machOf, startFed, Acted}
-use Rattle.rows.specs.Rehearsal.{unended}
+use Rattle.text.specs.Ends.{unended}
 
 -- ---- a row, by its phase
 
@@ -69,19 +69,6 @@ pub fresh-is : (s : Started) → s ≡ startOf 2 0 0 0 → _≡_ {A = Fed} (reco
 fresh-is s e = rw e
 
 -- ---- a row's end
-
-pub unended-cr : (l : List ℕ) → getD l (length l - 1) 0 ≡ 13 → take (length l - 1) l ≡ unended l
-unfolding unended
-unended-cr l e = rw (eq-eqb _ _ e)
-
-pub unended-not : (l : List ℕ) → (getD l (length l - 1) 0 ≡ 13 → ⊥) → take (length l) l ≡ unended l
-unfolding unended
-unended-not l e = rw (ne-eqb _ _ e, take-length)
-
-pub unended-empty : (l : List ℕ) → length l ≤ 0 → take (length l) l ≡ unended l
-unfolding unended
-unended-empty [] h = refl
-unended-empty (x ∷ l) h = absurd (omega arith)
 
 pub held-over : (n : ℕ) (l m : List ℕ) → 65 < n → pickHeld true m ≡ short (heldOf n l)
 unfolding heldOf

@@ -20,7 +20,8 @@ use Rattle.rows.specs.declared.Phase.{Phase}
 use Rattle.rows.specs.declared.Phase.the-variants.{Header, Planning, Running, Ended}
 use Rattle.rows.specs.Machine.{Held, Line, Over, Mach, short, rowIn, headIn, planSay, planPhase, planRun, startPhase, nextPhase, nextRow, nextRun, sayLine, push, ended, stepM, sayM, runM, sayAll, endBy, textFrom, start, joined, saidBy}
 use Rattle.rows.proofs.HeldLaws.{holds, hold-push, row-lf, row-end, head-lf, head-end}
-use Rattle.rows.specs.Rehearsal.{unended, lastRow, rowsFrom, answerText, runAfter, stepsText, afterPlan, planRowText, afterHeader, rowsText, transcript}
+use Rattle.text.specs.Ends.{unended}
+use Rattle.rows.specs.Rehearsal.{lastRow, rowsFrom, answerText, runAfter, stepsText, afterPlan, planRowText, afterHeader, rowsText, transcript}
 
 -- ---- an input in parts
 

@@ -1,33 +1,34 @@
--- A whole row where steps are due: what the machine makes of its bytes is what the step that it says makes of the run. Assumes nothing.
-use Prim.Native.Nat.{ℕ, _+_, _-_, _≤_, _<_}
+-- Whole rows where steps are due: what the machine makes of their bytes is what the steps that they ask for make of the run. Assumes nothing.
+use Prim.Native.Nat.{ℕ, suc, _+_, _≤_}
 use native.Mathlib.Omega.{arith}
-use mathlib.Core.Bool.{true, false}
+use mathlib.Core.Bool.{true}
 use mathlib.Core.List.{List, [], _∷_, _++_, append-assoc, append-nil}
 use mathlib.Core.Path.{_≡_, refl, sym, _∙_, ap}
-use lib.ListN.{length, getD, take, drop, length-append, length-drop}
-use lib.Seq.{length-take-le, take-all}
-use lib.Dec.{eqb}
+use lib.ListN.{length, take}
+use lib.Seq.{take-all}
 use borrow.Author.Tests.{ne-eqb}
 use Rattle.parts.specs.declared.answer.Answer.the-variants.{Refused}
 use Rattle.parts.specs.declared.answer.Refusal.the-variants.{Range}
-use Rattle.parts.specs.declared.step.Step.{Step as Asks}
 use Rattle.parts.specs.declared.step.Step.the-variants.{Other as NoKind}
 use Rattle.decide.specs.Admit.{inRange, admitOf}
 use Rattle.decide.specs.Decide.{decideWith}
 use Rattle.run.specs.declared.Run.{Run}
 use Rattle.run.specs.declared.Stepped.{Stepped}
+use Rattle.run.specs.Lists.{runAll}
 use Rattle.run.specs.Steps.{decideAt, decideIn, decideOf, goOf, stepOf}
 use Rattle.run.specs.Undamaged.{undamaged}
 use Rattle.run.proofs.FrameLaws.{step-is-go}
-use Rattle.text.specs.Ahead.{breaks, Leads}
+use Rattle.run.proofs.UndamagedLaws.{step-undamaged}
+use Rattle.text.specs.Ends.{unended, breaks, stepIn}
 use Rattle.text.specs.Rows.{rowOf}
 use Rattle.text.specs.declared.row.Row.{Row}
 use Rattle.text.specs.declared.row.Row.the-variants.{Other, Plan, Step}
+use Rattle.text.proofs.BreakLaws.{breaks-first}
 use Rattle.print.specs.Rows.{stepText, refusalText}
+use Rattle.turns.specs.Turns.{closed, breaksIn, stepsIn, textAll}
 use Rattle.rows.specs.declared.Phase.the-variants.{Running}
-use Rattle.rows.specs.Machine.{Held, Mach, short, rowIn, nextPhase, nextRow, nextRun, sayLine, push, ended, stepM, sayM, runM, sayAll, heldOf, atRow, stepIn, OneRow}
-use Rattle.rows.specs.Rehearsal.{unended, answerText, runAfter}
-use Rattle.rows.proofs.BreakLaws.{breaks-lf, breaks-first, part-all, part-lf}
+use Rattle.rows.specs.Machine.{Held, Mach, short, rowIn, nextPhase, nextRow, nextRun, sayLine, push, ended, stepM, sayM, runM, sayAll, heldOf, atRow}
+use Rattle.rows.specs.Rehearsal.{answerText, runAfter}
 use Rattle.rows.proofs.HeldLaws.{holds, hold-push, row-lf}
 
 -- ---- bytes without LF
@@ -122,39 +123,36 @@ module _ (run : Run) (sound : undamaged run ≡ true) where
   asked-say n (Plan a b c d) = refused-text n ∙ sym (ap (λ (t : Stepped). stepText n (t .answer)) (no-kind run sound))
   asked-say n (Step s) = refl
 
-pub one-row : (l : List ℕ) → breaks l ≡ 0 → OneRow (l ++ (10 ∷ [])) (stepIn (rowOf (unended l)))
-one-row l bare =
-    record {
-      one = breaks-lf l bare;
-      next = λ n run h. row-run l n run bare ∙ ap (atRow (n + 1)) (asked-run run h (rowOf (unended l)));
-      says = λ n run h. row-say l n run bare ∙ asked-say run h n (rowOf (unended l));
-    }
+-- ---- lines, each with its LF
 
--- the row from i to the LF at e
-pub ended-row : (s : List ℕ) (i e : ℕ) (l : List ℕ) (x : Asks) → i ≤ e → e < length s → breaks (take (e - i) (drop i s)) ≡ 0 → getD s e 0 ≡ 10 → l ≡ unended (take (e - i) (drop i s)) → x ≡ stepIn (rowOf l) → OneRow (take (e + 1 - i) (drop i s)) x
-ended-row s i e l x h k bare lf le xe = rw (part-lf s i e h k lf, xe, le) (one-row (take (e - i) (drop i s)) bare)
+module _ (run : Run) (sound : undamaged run ≡ true) (n : ℕ) (l : List ℕ) (bare : breaks l ≡ 0) where
+  line-run : (k : List ℕ) → runM (atRow n run) (l ++ (10 ∷ k)) ≡ runM (atRow (n + 1) (stepOf run (stepIn (rowOf (unended l))) .run)) k
+  line-run k =
+      ap (runM (atRow n run)) (sym (append-assoc l (10 ∷ []) k))
+      ∙ run-append (atRow n run) (l ++ (10 ∷ [])) k
+      ∙ ap (λ (m : Mach). runM m k) (row-run l n run bare ∙ ap (atRow (n + 1)) (asked-run run sound (rowOf (unended l))))
 
--- ---- a row that is read with its LF
+  line-say : (k : List ℕ) → sayAll (atRow n run) (l ++ (10 ∷ k)) ≡ stepText n (stepOf run (stepIn (rowOf (unended l))) .answer) ++ sayAll (atRow (n + 1) (stepOf run (stepIn (rowOf (unended l))) .run)) k
+  line-say k =
+      ap (sayAll (atRow n run)) (sym (append-assoc l (10 ∷ []) k))
+      ∙ say-append (atRow n run) (l ++ (10 ∷ [])) k
+      ∙ ap (λ (x : List ℕ). x ++ sayAll (runM (atRow n run) (l ++ (10 ∷ []))) k) (row-say l n run bare ∙ asked-say run sound n (rowOf (unended l)))
+      ∙ ap (λ (m : Mach). stepText n (stepOf run (stepIn (rowOf (unended l))) .answer) ++ sayAll m k) (row-run l n run bare ∙ ap (atRow (n + 1)) (asked-run run sound (rowOf (unended l))))
 
-unended-bare : (l : List ℕ) → eqb (getD l (length l - 1) 0) 13 ≡ false → unended l ≡ l
-unfolding unended
-unended-bare l e = rw e
+pub lines-run : (ls : List (List ℕ)) (n : ℕ) (run : Run) → undamaged run ≡ true → breaksIn ls ≡ 0 → runM (atRow n run) (closed ls) ≡ atRow (n + length ls) (runAll run (stepsIn ls))
+unfolding closed breaksIn stepsIn runAll runM
+lines-run [] n run sound bare = let e : n + 0 ≡ n = omega arith in ap (λ (k : ℕ). atRow k run) (sym e)
+lines-run (l ∷ ls) n run sound bare =
+    let e : n + 1 + length ls ≡ n + suc (length ls) = omega arith in
+    let r : Run = stepOf run (stepIn (rowOf (unended l))) .run in
+    line-run run sound n l (omega arith) (closed ls)
+    ∙ lines-run ls (n + 1) r (step-undamaged run (stepIn (rowOf (unended l))) sound) (omega arith)
+    ∙ ap (λ (k : ℕ). atRow k (runAll r (stepsIn ls))) e
 
-led-row : (s : List ℕ) (x : Asks) (n : ℕ) → Leads s x n → OneRow (take n s) x
-led-row s x n f =
-    let e : stepIn (rowOf (unended (f .line))) ≡ x = ap (λ (l : List ℕ). stepIn (rowOf l)) (unended-bare (f .line) (f .bare)) ∙ ap stepIn (f .says) in
-    rw (f .ends, ← e) (one-row (f .line) (f .unbroken))
-
-led-some : (s : List ℕ) (x : Asks) (n : ℕ) → Leads s x n → 0 < n
-led-some s x n f =
-    let e : length (take n s) ≡ n = length-take-le n s (f .within) in
-    let g : length (take n s) ≡ length (f .line ++ (10 ∷ [])) = ap length (f .ends) in
-    omega (arith, length-append (f .line) (10 ∷ []))
-
--- the row from i on
-pub led-found : (s : List ℕ) (i : ℕ) (x : Asks) (n : ℕ) → i ≤ length s → Leads (take (length s - i) (drop i s)) x n → (i + n ≤ length s) × (0 < n) × OneRow (take (i + n - i) (drop i s)) x
-led-found s i x n h f =
-    let g : Leads (drop i s) x n = rw (part-all s i) at f in
-    let e : i + n - i ≡ n = omega arith in
-    let w : n ≤ length (drop i s) = g .within in
-    (omega (arith, length-drop i s), led-some (drop i s) x n g, rw e (led-row (drop i s) x n g))
+pub lines-say : (ls : List (List ℕ)) (n : ℕ) (run : Run) → undamaged run ≡ true → breaksIn ls ≡ 0 → sayAll (atRow n run) (closed ls) ≡ textAll n run (stepsIn ls)
+unfolding closed breaksIn stepsIn textAll sayAll
+lines-say [] n run sound bare = refl
+lines-say (l ∷ ls) n run sound bare =
+    let x = stepIn (rowOf (unended l)) in
+    line-say run sound n l (omega arith) (closed ls)
+    ∙ ap (λ (k : List ℕ). stepText n (stepOf run x .answer) ++ k) (lines-say ls (n + 1) (stepOf run x .run) (step-undamaged run x sound) (omega arith))

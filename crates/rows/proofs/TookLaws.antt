@@ -11,19 +11,20 @@ use lib.Dec.{ltb}
 use borrow.Author.Tests.{eq-eqb, eqb-true, le-leb, ltb-true, ltb-false}
 use Rattle.run.specs.declared.Run.{Run}
 use Rattle.run.specs.Undamaged.{undamaged}
-use Rattle.text.specs.Ahead.{breaks}
+use Rattle.text.specs.Ends.{unended, breaks}
 use Rattle.text.specs.Rows.{rowOf}
 use Rattle.print.specs.Put.{Wrote}
 use Rattle.print.proofs.PutLaws.{after}
+use Rattle.text.proofs.BreakLaws.{breaks-lf, breaks-more, all-used}
+use Rattle.turns.specs.Turns.{Took}
+use Rattle.turns.specs.declared.turn.Went.{Went}
 use Rattle.rows.specs.declared.Kept.{Kept}
 use Rattle.rows.specs.declared.Phase.{Phase}
 use Rattle.rows.specs.declared.Phase.the-variants.{Header, Planning, Running, Ended}
-use Rattle.rows.specs.declared.steps.Went.{Went}
-use Rattle.rows.specs.Machine.{Line, Mach, pickHeld, short, nextPhase, nextRow, nextRun, sayLine, runM, sayAll, endBy, heldOf, machOf, atRow, soundIn, Whole, isRunning, atStep, Took, Acted}
-use Rattle.rows.specs.Rehearsal.{unended, answerText, runAfter}
-use Rattle.rows.proofs.BreakLaws.{breaks-lf, breaks-more, all-used}
+use Rattle.rows.specs.Machine.{Line, Mach, pickHeld, short, nextPhase, nextRow, nextRun, sayLine, runM, sayAll, endBy, heldOf, machOf, atRow, soundIn, Whole, isRunning, atStep, Acted}
+use Rattle.rows.specs.Rehearsal.{answerText, runAfter}
 use Rattle.rows.proofs.MachineLaws.{end-line-is}
-use Rattle.rows.proofs.RowLaws.{rowing, bare-say, run-append, say-append, row-run, row-say}
+use Rattle.rows.proofs.RowLaws.{rowing, bare-say, run-append, say-append, row-run, row-say, lines-run, lines-say}
 
 -- ---- where steps are due
 
@@ -58,26 +59,34 @@ all-led u n t e f = go (ltb u n) refl
     go true h = absurd (let z : true ≡ false = sym (f (ltb-true u n h)) ∙ e in let y : _≡_ {A = ℕ} 0 1 = cc in omega arith)
     go false h = ltb-false u n h
 
--- ---- one row
+-- ---- the rows that were taken, as the machine takes their bytes
 
-module _ (l : List ℕ) (at row : ℕ) (run : Run) (d e : List ℕ) (w : Went) (bare : breaks l ≡ 0) (k : Took (l ++ (10 ∷ [])) at row run d e w) where
-  took-goes : atRow (w .row) (w .run) ≡ atRow (row + 1) (runAfter run (rowOf (unended l)))
-  took-goes = sym (k .goes) ∙ ap (runM (atRow row run)) (all-used l (w .used) (k .rest)) ∙ row-run l row run bare
+module _ (s : List ℕ) (at row : ℕ) (run : Run) (d e : List ℕ) (w : Went) (sound : undamaged run ≡ true) (k : Took s at row run d e w) where
+  pub took-goes : runM (atRow row run) (take (w .used) s) ≡ atRow (w .row) (w .run)
+  took-goes = ap (runM (atRow row run)) (k .taken) ∙ lines-run (k .lines) row run sound (k .unbroken) ∙ rw (k .next, k .goes) refl
 
-  took-says : sayAll (atRow row run) (take (w .used) (l ++ (10 ∷ []))) ≡ answerText row run (rowOf (unended l))
-  took-says = ap (sayAll (atRow row run)) (all-used l (w .used) (k .rest)) ∙ row-say l row run bare
+  pub took-wrote : Wrote d at (sayAll (atRow row run) (take (w .used) s)) e (w .at)
+  took-wrote = rw (k .taken, lines-say (k .lines) row run sound (k .unbroken)) (k .says, k .ends)
 
-  took-row : w .row ≡ row + 1
-  took-row = ap (λ (m : Mach). m .row) took-goes
+-- one row
+module _ (l : List ℕ) (at row : ℕ) (run : Run) (d e : List ℕ) (w : Went) (bare : breaks l ≡ 0) (sound : undamaged run ≡ true) (k : Took (l ++ (10 ∷ [])) at row run d e w) where
+  one-goes : atRow (w .row) (w .run) ≡ atRow (row + 1) (runAfter run (rowOf (unended l)))
+  one-goes = sym (took-goes (l ++ (10 ∷ [])) at row run d e w sound k) ∙ ap (runM (atRow row run)) (all-used l (w .used) (k .rest)) ∙ row-run l row run bare
 
-  took-run : w .run ≡ runAfter run (rowOf (unended l))
-  took-run = ap (λ (m : Mach). m .run) took-goes
+  one-says : sayAll (atRow row run) (take (w .used) (l ++ (10 ∷ []))) ≡ answerText row run (rowOf (unended l))
+  one-says = ap (sayAll (atRow row run)) (all-used l (w .used) (k .rest)) ∙ row-say l row run bare
 
-  took-wrote : Wrote d at (answerText row run (rowOf (unended l))) e (w .at)
-  took-wrote = rw (← took-says) (k .says, k .ends)
+  one-row : w .row ≡ row + 1
+  one-row = ap (λ (m : Mach). m .row) one-goes
 
-  took-room : w .at ≤ at + 69
-  took-room = let o : w .at ≤ at + 69 * breaks (l ++ (10 ∷ [])) = k .room in let b : breaks (l ++ (10 ∷ [])) ≡ 1 = breaks-lf l bare in omega arith
+  one-run : w .run ≡ runAfter run (rowOf (unended l))
+  one-run = ap (λ (m : Mach). m .run) one-goes
+
+  one-wrote : Wrote d at (answerText row run (rowOf (unended l))) e (w .at)
+  one-wrote = rw one-says at (took-wrote (l ++ (10 ∷ [])) at row run d e w sound k)
+
+  one-room : w .at ≤ at + 69
+  one-room = let o : w .at ≤ at + 69 * breaks (l ++ (10 ∷ [])) = k .room in let b : breaks (l ++ (10 ∷ [])) ≡ 1 = breaks-lf l bare in omega arith
 
 -- ---- the row that is held
 
@@ -105,6 +114,9 @@ module _ (k : Kept) (line : List ℕ) (run : Run) (size : length line ≡ 67) (f
   held-bare : breaks (take (k .len) line) ≡ 0
   held-bare = rw held-is at (whole .1)
 
+  due-sound : undamaged run ≡ true
+  due-sound = running-sound (k .phase) run due (whole .0)
+
   -- with an LF
   lf-row : take (k .len + 1) (set line (k .len) 10) ≡ take (k .len) line ++ (10 ∷ [])
   lf-row = let h : k .len < length line = omega arith in rw add-one (take-suc-set line (k .len) 10 h)
@@ -118,9 +130,9 @@ module _ (k : Kept) (line : List ℕ) (run : Run) (size : length line ≡ 67) (f
   lf-acted d e w t =
       let l : List ℕ = take (k .len) line in
       let u : Took (l ++ (10 ∷ [])) (k .at) (k .row) run d e w = rw lf-row at t in
-      let q = took-wrote l (k .at) (k .row) run d e w held-bare u in
+      let q = one-wrote l (k .at) (k .row) run d e w held-bare due-sound u in
       rw (held-is, is-running (k .phase) due)
-      (refl, refl, took-row l (k .at) (k .row) run d e w held-bare u, took-run l (k .at) (k .row) run d e w held-bare u, q .0, q .1, took-room l (k .at) (k .row) run d e w held-bare u)
+      (refl, refl, one-row l (k .at) (k .row) run d e w held-bare due-sound u, one-run l (k .at) (k .row) run d e w held-bare due-sound u, q .0, q .1, one-room l (k .at) (k .row) run d e w held-bare due-sound u)
 
   -- with a CR and an LF
   cr-bare : breaks (take (k .len) line ++ (13 ∷ [])) ≡ 0
@@ -141,9 +153,9 @@ module _ (k : Kept) (line : List ℕ) (run : Run) (size : length line ≡ 67) (f
   crlf-ended l d e w some le t =
       let h : List ℕ = take (k .len) line in
       let u : Took ((h ++ (13 ∷ [])) ++ (10 ∷ [])) (k .at) (k .row) run d e w = rw (crlf-row l le) at t in
-      let q : Wrote d (k .at) (answerText (k .row) run (rowOf h)) e (w .at) = rw (unended-put h) at (took-wrote (h ++ (13 ∷ [])) (k .at) (k .row) run d e w cr-bare u) in
+      let q : Wrote d (k .at) (answerText (k .row) run (rowOf h)) e (w .at) = rw (unended-put h) at (one-wrote (h ++ (13 ∷ [])) (k .at) (k .row) run d e w cr-bare due-sound u) in
       let z : answerText (k .row) run (rowOf h) ≡ endBy (k .phase) (k .row) run (heldOf (k .len) line) = sym line-text ∙ end-line-is (k .phase) (k .row) run (k .len) line size few some in
-      (rw z at q, took-room (h ++ (13 ∷ [])) (k .at) (k .row) run d e w cr-bare u)
+      (rw z at q, one-room (h ++ (13 ∷ [])) (k .at) (k .row) run d e w cr-bare due-sound u)
 
 -- ---- a part: the bytes before its first whole row, its whole rows, and the bytes behind them
 
@@ -154,13 +166,13 @@ module _ (m₀ m : Mach) (s : List ℕ) (u : ℕ) (start : Mach) where
   split-say : m ≡ runM m₀ (take u s) → m ≡ start → sayAll m₀ (take u s) ++ sayAll start (drop u s) ≡ sayAll m₀ s
   split-say e f = rw (← f, e) (sym (say-append m₀ (take u s) (drop u s)) ∙ ap (sayAll m₀) (take-append-drop u s))
 
-module _ (s : List ℕ) (at row : ℕ) (run : Run) (d e : List ℕ) (w : Went) (k : Took s at row run d e w) where
+module _ (s : List ℕ) (at row : ℕ) (run : Run) (d e : List ℕ) (w : Went) (sound : undamaged run ≡ true) (k : Took s at row run d e w) where
   pub took-all : runM (atRow row run) s ≡ runM (atRow (w .row) (w .run)) (drop (w .used) s)
-  took-all = sym (split-run (atRow row run) _ s (w .used) (atRow (w .row) (w .run)) refl (k .goes))
+  took-all = sym (split-run (atRow row run) _ s (w .used) (atRow (w .row) (w .run)) refl (took-goes s at row run d e w sound k))
 
   pub took-said : sayAll (atRow row run) s ≡ sayAll (atRow row run) (take (w .used) s)
   took-said =
-      sym (split-say (atRow row run) _ s (w .used) (atRow (w .row) (w .run)) refl (k .goes))
+      sym (split-say (atRow row run) _ s (w .used) (atRow (w .row) (w .run)) refl (took-goes s at row run d e w sound k))
       ∙ ap (λ (x : List ℕ). sayAll (atRow row run) (take (w .used) s) ++ x) (bare-say (atRow (w .row) (w .run)) (drop (w .used) s) (k .rest))
       ∙ append-nil _
 
@@ -168,15 +180,15 @@ module _ (m₀ : Mach) (s : List ℕ) (u : ℕ) (k : Kept) (line line′ : List 
   -- rest is what the part has from u on, and last what its whole rows leave
   pub fed-on : (rest last : List ℕ) → rest ≡ drop u s → last ≡ drop (w .used) rest
       → machOf k line held ≡ runM m₀ (take u s) → Wrote d at (sayAll m₀ (take u s)) e (k .at) → atStep (k .phase) (k .len) ≡ true
-      → Took rest (k .at) (k .row) held e f w
+      → undamaged held ≡ true → Took rest (k .at) (k .row) held e f w
       → ((n : ℕ) (run : Run) → runM (atRow n run) last ≡ rowing (heldOf len line′) n run)
       → at ≤ length d
       → (rowing (heldOf len line′) (w .row) (w .run) ≡ runM m₀ s) × Wrote d at (sayAll m₀ s) f (w .at)
-  fed-on rest last re le g p due t h fits =
+  fed-on rest last re le g p due sound t h fits =
       let b : machOf k line held ≡ atRow (k .row) held = at-row (k .phase) (k .len) line (k .row) held due in
-      let q : Wrote e (k .at) (sayAll (atRow (k .row) held) rest) f (w .at) = rw (took-said rest (k .at) (k .row) held e f w t) (t .says, t .ends) in
+      let q : Wrote e (k .at) (sayAll (atRow (k .row) held) rest) f (w .at) = rw (took-said rest (k .at) (k .row) held e f w sound t) (took-wrote rest (k .at) (k .row) held e f w sound t) in
       let z : Wrote d at (sayAll m₀ (take u s) ++ sayAll (atRow (k .row) held) rest) f (w .at) = after d _ _ p q fits in
       let y : sayAll m₀ (take u s) ++ sayAll (atRow (k .row) held) rest ≡ sayAll m₀ s = rw re (split-say m₀ (machOf k line held) s u (atRow (k .row) held) g b) in
       let x : runM (atRow (k .row) held) rest ≡ runM m₀ s = rw re (split-run m₀ (machOf k line held) s u (atRow (k .row) held) g b) in
       let v : runM (atRow (w .row) (w .run)) (drop (w .used) rest) ≡ rowing (heldOf len line′) (w .row) (w .run) = rw (← le) (h (w .row) (w .run)) in
-      (sym v ∙ sym (took-all rest (k .at) (k .row) held e f w t) ∙ x, rw y at z)
+      (sym v ∙ sym (took-all rest (k .at) (k .row) held e f w sound t) ∙ x, rw y at z)

@@ -12,7 +12,7 @@ use Rattle.run.specs.declared.Run.{Run}
 use Rattle.run.specs.Start.{startOf}
 use Rattle.run.specs.Undamaged.{undamaged}
 use Rattle.run.proofs.UndamagedLaws.{step-undamaged, start-undamaged}
-use Rattle.text.specs.Ahead.{breaks}
+use Rattle.text.specs.Ends.{breaks}
 use Rattle.text.specs.declared.row.Row.{Row}
 use Rattle.text.specs.declared.row.Row.the-variants.{Other, Plan, Step}
 use Rattle.rows.specs.declared.Fed.{Fed}
@@ -20,7 +20,7 @@ use Rattle.rows.specs.declared.Phase.{Phase}
 use Rattle.rows.specs.declared.Phase.the-variants.{Header, Planning, Running, Ended}
 use Rattle.rows.specs.Machine.{Held, Line, Over, Mach, short, rowIn, headIn, startPhase, planPhase, planRun, nextPhase, nextRow, nextRun, push, ended, stepM, runM, heldOf, machOf, startFed, soundIn, heldBreaks, Whole}
 use Rattle.rows.specs.Rehearsal.{runAfter}
-use Rattle.rows.proofs.BreakLaws.{breaks-more}
+use Rattle.text.proofs.BreakLaws.{breaks-more}
 
 -- ---- a row
 

@@ -1,30 +1,26 @@
 -- The rehearsal as a machine that is fed bytes and says bytes: its state, one byte, several, and the input's end.
-use Prim.Native.Nat.{ℕ, _+_, _*_, _≤_}
+use Prim.Native.Nat.{ℕ, _+_, _≤_}
 use mathlib.Core.Bool.{Bool, true, false, cond}
 use mathlib.Core.List.{List, [], _∷_, _++_}
 use mathlib.Core.Path.{_≡_}
 use lib.Dec.{eqb, leb, ltb}
-use lib.ListN.{length, take, drop}
+use lib.ListN.{length, take}
 use Rattle.plan.specs.declared.Planned.{Planned}
 use Rattle.plan.specs.declared.Planned.the-variants.{OutOfRange, TooSmall, Accepted}
 use Rattle.run.specs.declared.Run.{Run}
-use Rattle.parts.specs.declared.step.Step.{Step as Asks}
-use Rattle.parts.specs.declared.step.Step.the-variants.{Other as NoKind}
 use Rattle.run.specs.Start.{startOf}
-use Rattle.run.specs.Steps.{stepOf}
 use Rattle.run.specs.Undamaged.{undamaged}
-use Rattle.text.specs.Ahead.{breaks}
+use Rattle.text.specs.Ends.{unended, breaks}
 use Rattle.text.specs.Rows.{rowOf, isHeader}
 use Rattle.text.specs.declared.row.Row.{Row}
 use Rattle.text.specs.declared.row.Row.the-variants.{Other, Plan, Step}
 use Rattle.print.specs.Put.{put}
-use Rattle.print.specs.Rows.{stepText, planText, refusalText, noHeaderText, headText, room}
+use Rattle.print.specs.Rows.{planText, refusalText, noHeaderText, headText, room}
 use Rattle.rows.specs.declared.Fed.{Fed}
 use Rattle.rows.specs.declared.Kept.{Kept}
 use Rattle.rows.specs.declared.Phase.{Phase}
-use Rattle.rows.specs.declared.steps.Went.{Went}
 use Rattle.rows.specs.declared.Phase.the-variants.{Header, Planning, Running, Ended}
-use Rattle.rows.specs.Rehearsal.{unended, answerText, runAfter}
+use Rattle.rows.specs.Rehearsal.{answerText, runAfter}
 
 -- the bytes of a row so far: at most 65, which is a row and a CR, or more than that
 pub data Held : Type 0 where
@@ -208,29 +204,6 @@ atStep Header len = false
 atStep Planning len = false
 atStep Running len = eqb len 0
 atStep Ended len = false
-
--- a row that is no step is answered as a step of no known kind
-abbrev pub stepIn : Row → Asks
-stepIn Other = NoKind
-stepIn (Plan n k r b) = NoKind
-stepIn (Step s) = s
-
--- these bytes are one row with its LF, answered as the step x is
-pub record OneRow (l : List ℕ) (x : Asks) : Type 0 where
-  pub one : breaks l ≡ 1
-  pub next : (n : ℕ) (run : Run) → undamaged run ≡ true → runM (atRow n run) l ≡ atRow (n + 1) (stepOf run x .run)
-  pub says : (n : ℕ) (run : Run) → undamaged run ≡ true → sayAll (atRow n run) l ≡ stepText n (stepOf run x .answer)
-
--- the whole rows of s are answered: the buffer, d before, is e after
-pub record Took (s : List ℕ) (at row : ℕ) (run : Run) (d e : List ℕ) (r : Went) : Type 0 where
-  pub within : r .used ≤ length s
-  pub rest : breaks (drop (r .used) s) ≡ 0
-  pub goes : runM (atRow row run) (take (r .used) s) ≡ atRow (r .row) (r .run)
-  pub says : e ≡ put d at (sayAll (atRow row run) (take (r .used) s))
-  pub ends : r .at ≡ at + length (sayAll (atRow row run) (take (r .used) s))
-  pub room : r .at ≤ at + room * breaks s
-  pub rows : r .row ≤ row + breaks s
-  pub sound : undamaged (r .run) ≡ true
 
 -- a row in phase p is answered: the buffer, d before, is e after
 abbrev pub Acted : Phase → Kept → Run → Held → List ℕ → List ℕ → Fed → Type 0

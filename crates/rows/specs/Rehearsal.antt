@@ -1,22 +1,18 @@
 -- The rehearsal of document 01: from all bytes of the input to all bytes of the output. A row is the list of its bytes.
-use Prim.Native.Nat.{ℕ, _+_, _-_}
+use Prim.Native.Nat.{ℕ, _+_}
 use mathlib.Core.Bool.{cond}
 use mathlib.Core.List.{List, [], _∷_, _++_}
 use lib.Dec.{eqb}
-use lib.ListN.{length, getD, take}
 use Rattle.plan.specs.declared.Planned.{Planned}
 use Rattle.plan.specs.declared.Planned.the-variants.{OutOfRange, TooSmall, Accepted}
 use Rattle.run.specs.declared.Run.{Run}
 use Rattle.run.specs.Start.{startOf}
 use Rattle.run.specs.Steps.{stepOf}
+use Rattle.text.specs.Ends.{unended}
 use Rattle.text.specs.Rows.{rowOf, isHeader}
 use Rattle.text.specs.declared.row.Row.{Row}
 use Rattle.text.specs.declared.row.Row.the-variants.{Other, Plan, Step}
 use Rattle.print.specs.Rows.{stepText, planText, refusalText, noHeaderText, headText}
-
--- "Rows end in LF or CRLF, which isn't counted": one CR, whose byte is 13, belongs to the end
-unfoldable pub unended : List ℕ → List ℕ
-unended l = cond (eqb (getD l (length l - 1) 0) 13) (take (length l - 1) l) l
 
 -- "which the last row may lack": what stands behind the last LF is a row as it is, where it has a byte
 abbrev pub lastRow : List ℕ → List (List ℕ)

@@ -5,10 +5,10 @@ use super::LINE;
 use super::Phase;
 use super::answers::act;
 use super::line::full;
-use super::line::trim;
-use super::steps::steps;
 use run::Run;
 use run::start;
+use text::trim;
+use turns::steps;
 ghost use mathlib.Core.Path.{_≡_};
 ghost use mathlib.Core.Bool.{true};
 ghost use Prim.Native.Nat.{ℕ, _≤_, _<_, _+_, _*_, _^_};
@@ -16,7 +16,7 @@ ghost use lib.ListN.{length, take};
 ghost use Rattle.print.specs.Put.{put};
 ghost use Rattle.print.specs.Rows.{room};
 ghost use Rattle.run.specs.declared.Run.{Run as AnyRun};
-ghost use Rattle.text.specs.Ahead.{breaks};
+ghost use Rattle.text.specs.Ends.{breaks};
 ghost use Rattle.rows.specs.Machine.{Acted, Whole, atRow, atStep, isRunning, short, heldOf, machOf, push as Machine·push, runM, sayAll, startFed};
 
 // How many bytes were used, what is kept, and the run.

@@ -2,9 +2,7 @@
 mod answers;
 mod bytes;
 mod ends;
-mod find;
 mod line;
-mod steps;
 
 pub use bytes::feed;
 pub use bytes::fresh;

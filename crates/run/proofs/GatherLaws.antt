@@ -1,29 +1,46 @@
 -- Laws of the two scans, for a free slot and for marked cabinets: one law for each way that a turn can go. Assumes nothing.
-use Prim.Native.Nat.{ℕ, _+_, _≤_, _<_}
+use Prim.Native.Nat.{ℕ, zero, suc, _+_, _≤_, _<_}
 use mathlib.Core.Path.{_≡_}
-use mathlib.Core.Bool.{true, false, not, _&&_}
-use mathlib.Core.List.{List}
+use mathlib.Core.Bool.{Bool, true, false, cond, not, _&&_}
+use mathlib.Core.List.{List, [], _∷_}
 use native.Mathlib.Numerals.{add-one}
 use native.Mathlib.Omega.{arith}
 use lib.Dec.{eqb}
 use lib.ListN.{length, getD, drop, drop-of-length-le}
-use lib.Seq.{drop-cons}
+use lib.Seq.{drop-cons, drop-nil}
 use Rattle.cabinet.specs.declared.record.Cabinet.{Cabinet}
 use Rattle.parts.specs.declared.message.Slot.{Slot}
+use Rattle.parts.specs.Parts.{emptySlot}
 use Rattle.run.specs.Gather.{isEmpty, firstFrom, othersFrom}
 
 pub first-end : (l : List Slot) (i : ℕ) → length l ≤ i → firstFrom i (drop i l) ≡ i
 unfolding firstFrom
 first-end l i h = rw (drop-of-length-le l {i = i} h)
 
-module _ (l : List Slot) (i : ℕ) (d : Slot) (h : i < length l) where
-  pub first-here : isEmpty (getD l i d .held) ≡ true → firstFrom i (drop i l) ≡ i
-  unfolding firstFrom
-  first-here e = rw (drop-cons l i d h, e)
+-- past the end a slot counts as free, so that none of these asks for the list's length
+pub first-here : (l : List Slot) (i k : ℕ) → isEmpty (getD l i emptySlot .held) ≡ true → firstFrom k (drop i l) ≡ k
+unfolding firstFrom
+first-here [] i k e = rw (drop-nil {A = Slot} i)
+first-here (t ∷ l) zero k e = rw e
+first-here (t ∷ l) (suc i) k e = first-here l i k e
 
-  pub first-next : isEmpty (getD l i d .held) ≡ false → firstFrom i (drop i l) ≡ firstFrom (i + 1) (drop (i + 1) l)
-  unfolding firstFrom
-  first-next e = rw (add-one, drop-cons l i d h, e)
+next : (l : List Slot) (i k : ℕ) → isEmpty (getD l i emptySlot .held) ≡ false → firstFrom k (drop i l) ≡ firstFrom (suc k) (drop (suc i) l)
+unfolding firstFrom
+next [] i k e = absurd (let z : _≡_ {A = ℕ} 0 1 = cc in omega arith)
+next (t ∷ l) zero k e = rw e
+next (t ∷ l) (suc i) k e = next l i k e
+
+pub first-next : (l : List Slot) (i k : ℕ) → isEmpty (getD l i emptySlot .held) ≡ false → firstFrom k (drop i l) ≡ firstFrom (k + 1) (drop (i + 1) l)
+first-next l i k e = rw (add-one, add-one) (next l i k e)
+
+pub first-least : (l : List Slot) (k : ℕ) → k ≤ firstFrom k l
+unfolding firstFrom
+first-least [] k = omega arith
+first-least (t ∷ l) k = go (isEmpty (t .held)) (first-least l (suc k))
+  where
+    go : (b : Bool) → suc k ≤ firstFrom (suc k) l → k ≤ cond b k (firstFrom (suc k) l)
+    go true q = omega arith
+    go false q = omega (arith, q)
 
 pub others-end : (p : ℕ) (l : List Cabinet) (i : ℕ) → length l ≤ i → othersFrom p i (drop i l) ≡ 0
 unfolding othersFrom

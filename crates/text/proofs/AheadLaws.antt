@@ -7,9 +7,9 @@ use mathlib.Core.Path.{_≡_, refl, sym, _∙_, ap}
 use lib.ListN.{length, getD, take, drop, length-append, length-drop, length-take, take-append-drop}
 use lib.Seq.{take-at, drop-at, drop-drop, getD-append-add}
 use lib.Dec.{eqb, leb}
-use borrow.Author.Tests.{leb-true, eqb-true, eq-eqb, ne-eqb}
+use borrow.Author.Tests.{leb-true, eqb-true, ne-eqb}
 use Rattle.parts.specs.declared.step.Step.{Step}
-use Rattle.text.specs.Ahead.{breaks, Leads}
+use Rattle.text.specs.Ends.{breaks, stepIn, Leads}
 use Rattle.text.specs.Fields.{noNum, num, same, split, valueFrom, unpadded, numberOf}
 use Rattle.text.specs.Pieces.{begins, first, after, numberAt, pairAt, headIf, headIn}
 use Rattle.text.specs.Rows.{oneStep, twoStep, rowAs, rowOf}
@@ -23,18 +23,15 @@ use Rattle.text.specs.declared.word.Head.{Head}
 use Rattle.text.specs.declared.word.Kind.{Kind}
 use Rattle.text.specs.declared.word.Kind.the-variants.{WithOne, WithTwo}
 use Rattle.text.specs.declared.word.Single.{Single}
+use Rattle.text.proofs.BreakLaws.{breaks-append}
 use Rattle.text.proofs.BytesLaws.{begins-is, begins-no, begins-yes}
+use Rattle.text.proofs.EndLaws.{unended-bare}
 use Rattle.text.proofs.FieldLaws.{from, from-is, first-rest, first-after, first-again, after-again}
 use Rattle.text.proofs.PairLaws.{told-value, told-end, told-fits, pair-first, pair-second, pair-end, pair-two, pair-fits, pair-rest}
 use Rattle.text.proofs.StepLaws.{one-is, two-is}
 use Rattle.text.proofs.WordLaws.{row-fits, row-is}
 
 -- ---- bytes without an LF
-
-breaks-append : (l m : List ℕ) → breaks (l ++ m) ≡ breaks l + breaks m
-unfolding breaks
-breaks-append [] m = omega arith
-breaks-append (b ∷ l) m = omega (arith, breaks-append l m)
 
 clean : (l m : List ℕ) → breaks l ≡ 0 → breaks m ≡ 0 → breaks (l ++ m) ≡ 0
 clean l m h g = omega (arith, breaks-append l m)
@@ -136,14 +133,16 @@ module _ (s : List ℕ) (h : Head) (e : h ≡ headIn kinds s) (q r : List ℕ) (
       → breaks q ≡ 0 → 0 < length q → length q ≤ 55 → getD q (length q - 1) 0 ≡ 44 → Leads s x n
   leads x n w k b z g t =
       record {
-        line = head ++ q;
         within = omega (arith, ap length whole, length-append (head ++ q) (10 ∷ r), length-append head q, head-length);
-        ends =
-            ap (take n) (whole ∙ sym (append-assoc (head ++ q) (10 ∷ []) r))
-            ∙ take-at ((head ++ q) ++ (10 ∷ [])) r n (omega (arith, length-append (head ++ q) (10 ∷ []), length-append head q, head-length));
-        unbroken = clean head q (head-fit .1) b;
-        bare = rw (last head q z, t);
-        says = says g x w;
+        row =
+            record {
+              line = head ++ q;
+              ends =
+                  ap (take n) (whole ∙ sym (append-assoc (head ++ q) (10 ∷ []) r))
+                  ∙ take-at ((head ++ q) ++ (10 ∷ [])) r n (omega (arith, length-append (head ++ q) (10 ∷ []), length-append head q, head-length));
+              unbroken = clean head q (head-fit .1) b;
+              asks = ap (λ (l : List ℕ). stepIn (rowOf l)) (unended-bare (head ++ q) (last head q z ∙ t)) ∙ ap stepIn (says g x w);
+            };
       }
 
 -- ---- what stands behind the numbers
@@ -255,37 +254,6 @@ module _ (k : Double) (s : List ℕ) (f a b n : ℕ) (h : headIn kinds s ≡ rec
       (omega (arith, two-length))
       (omega (arith, two-length, pair-end t a b n told-two, fit .0, fit-2 .0))
       (last both (44 ∷ 44 ∷ []) (omega arith))
-
--- ---- one row only
-
-broken : (b : ℕ) (l : List ℕ) → b ≡ 10 → breaks (b ∷ l) ≡ 0 → ⊥
-unfolding breaks
-broken b l e h = let g : 1 + breaks l ≡ 0 = rw (eq-eqb b 10 e) at h in omega arith
-
--- a line ends at the first LF
-line-is : (l m p q : List ℕ) → breaks l ≡ 0 → breaks m ≡ 0 → l ++ (10 ∷ p) ≡ m ++ (10 ∷ q) → l ≡ m
-unfolding breaks
-line-is [] [] p q h g e = refl
-line-is [] (c ∷ m) p q h g e = absurd (broken c m (cc) g)
-line-is (b ∷ l) [] p q h g e = absurd (broken b l (cc) h)
-line-is (b ∷ l) (c ∷ m) p q h g e =
-    let d : b ≡ c = cc in
-    let r : l ≡ m = line-is l m p q (omega arith) (omega arith) (cc) in
-    cc
-
-lead-is : (s : List ℕ) (x : Step) (n : ℕ) (l : Leads s x n) → s ≡ l .line ++ (10 ∷ drop n s)
-lead-is s x n l = sym (take-append-drop n s) ∙ rw (l .ends, append-assoc)
-
-lead-length : (s : List ℕ) (x : Step) (n : ℕ) (l : Leads s x n) → n ≡ length (l .line) + 1
-lead-length s x n l = omega (arith, l .within, length-take n s, ap length (l .ends), length-append (l .line) (10 ∷ []))
-
-pub lead-one : (s : List ℕ) (x y : Step) (n m : ℕ) → Leads s x n → Leads s y m → Whole x n ≡ Whole y m
-lead-one s x y n m l r =
-    let e : l .line ≡ r .line = line-is (l .line) (r .line) (drop n s) (drop m s) (l .unbroken) (r .unbroken) (sym (lead-is s x n l) ∙ lead-is s y m r) in
-    let k : n ≡ m = omega (arith, lead-length s x n l, lead-length s y m r, ap length e) in
-    let w : RowStep x ≡ RowStep y = sym (l .says) ∙ ap rowOf e ∙ r .says in
-    let z : x ≡ y = cc in
-    cc
 
 -- ---- the answer
 

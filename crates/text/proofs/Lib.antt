@@ -1,6 +1,8 @@
 pub mod AheadLaws
+pub mod BreakLaws
 pub mod BytesLaws
 pub mod Decides
+pub mod EndLaws
 pub mod FieldLaws
 pub mod NumberLaws
 pub mod PairLaws

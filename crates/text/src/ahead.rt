@@ -13,7 +13,7 @@ use parts::Step;
 ghost use mathlib.Core.Path.{_≡_};
 ghost use Prim.Native.Nat.{ℕ};
 ghost use Rattle.parts.specs.declared.step.Step.{Step as Asks};
-ghost use Rattle.text.specs.Ahead.{Leads};
+ghost use Rattle.text.specs.Ends.{Leads};
 ghost use Rattle.text.specs.Pieces.{headIn};
 ghost use Rattle.text.specs.Words.{kinds};
 

@@ -4,10 +4,12 @@ mod bytes;
 mod field;
 mod reading;
 mod row;
+mod whole;
 mod word;
 
-pub use ahead::Ahead;
-pub use ahead::step_ahead;
 pub use row::Row;
 pub use row::is_header;
 pub use row::parse;
+pub use whole::Found;
+pub use whole::find;
+pub use whole::trim;

@@ -2,7 +2,7 @@
 use Rattle.rows.specs.Machine.{machOf}
 use Rattle.rows.proofs.WholeLaws.{whole-at}
 use Rattle.rows.proofs.TookLaws.{step-sound, all-led, fed-on}
-use Rattle.rows.proofs.BreakLaws.{part-all, rest-most}
+use Rattle.text.proofs.BreakLaws.{part-all, rest-most}
 use mathlib.Core.Path.{_≡_, sym, _∙_}
 use lib.Seq.{take-all}
 use lib.ListN.{length, take, drop}
@@ -46,7 +46,7 @@ same-length : tie.Need-same-length
 same-length c = search needs
 
 returns : tie.Need-returns
-returns c = let o = rest-most (c .before .before .before .before .before .before .before .before .before .before .before .before .before .before .before .before .before .before .before .before .args .s .now) (c .before .before .before .before .before .before .before .before .before .before .before .before .before .before .before .lead .result .used) in let q = fed-on (machOf (c .before .before .before .before .before .before .before .before .before .before .before .before .before .before .before .before .before .before .before .before .args .kept) (c .before .before .before .before .before .before .before .before .before .before .before .before .before .before .before .before .before .before .before .before .args .line .now) (c .before .before .before .before .before .before .before .before .before .before .before .before .before .before .before .before .before .before .before .before .args .run)) (c .before .before .before .before .before .before .before .before .before .before .before .before .before .before .before .before .before .before .before .before .args .s .now) (c .before .before .before .before .before .before .before .before .before .before .before .before .before .before .before .lead .result .used) (c .before .before .before .before .before .before .before .before .before .before .before .before .before .before .before .lead .result .kept) _ _ (c .before .before .before .before .before .before .before .before .before .before .before .before .before .before .before .lead .result .run) (c .before .before .before .before .before .before .steps .result) (c .before .before .before .before .before .before .before .before .before .before .before .before .before .before .before .before .before .before .before .before .args .out .now) _ _ (c .before .before .before .before .before .before .before .before .before .before .before .before .before .before .before .before .before .before .before .before .args .kept .at) (c .hold .result) (take (length (c .before .before .before .before .before .before .before .before .before .before .before .before .before .before .before .before .before .before .before .before .args .s .now) - c .before .before .before .before .before .before .before .before .before .before .before .before .before .before .before .lead .result .used) (drop (c .before .before .before .before .before .before .before .before .before .before .before .before .before .before .before .lead .result .used) (c .before .before .before .before .before .before .before .before .before .before .before .before .before .before .before .before .before .before .before .before .args .s .now))) _ (part-all (c .before .before .before .before .before .before .before .before .before .before .before .before .before .before .before .before .before .before .before .before .args .s .now) (c .before .before .before .before .before .before .before .before .before .before .before .before .before .before .before .lead .result .used)) (part-all (take (length (c .before .before .before .before .before .before .before .before .before .before .before .before .before .before .before .before .before .before .before .before .args .s .now) - c .before .before .before .before .before .before .before .before .before .before .before .before .before .before .before .lead .result .used) (drop (c .before .before .before .before .before .before .before .before .before .before .before .before .before .before .before .lead .result .used) (c .before .before .before .before .before .before .before .before .before .before .before .before .before .before .before .before .before .before .before .before .args .s .now))) (c .before .before .before .before .before .before .steps .result .used)) (c .before .before .before .before .before .before .before .before .before .before .before .before .before .before .before .lead .ensures .0) (c .before .before .before .before .before .before .before .before .before .before .before .before .before .before .before .lead .ensures .1 .0, c .before .before .before .before .before .before .before .before .before .before .before .before .before .before .before .lead .ensures .1 .1 .0) (sym (c .before .before .before .before .before .before .before .before .before .at-step .ensures) ∙ c .before .before .before .before .before .before .before .before .if1 .taken) (c .before .before .before .before .before .before .steps .ensures) (c .hold .ensures) (omega (arith, c .before .before .before .before .before .before .before .before .before .before .before .before .before .before .before .before .before .before .before .before .pre .0)) in (q .0, (q .1 .0, (q .1 .1, ((omega (arith, o, c .before .before .before .before .before .before .before .before .before .before .before .before .before .before .before .lead .ensures .1 .1 .1 .0 .0, c .before .before .before .before .before .before .before .before .before .before .before .before .before .before .before .lead .ensures .1 .1 .1 .0 .1, c .before .before .before .before .before .before .before .before .before .before .before .before .before .before .before .lead .ensures .1 .1 .1 .1 .0, c .before .before .before .before .before .before .before .before .before .before .before .before .before .before .out .given, c .before .before .before .before .before .before .before .before .before .before .before .before .before .before .before .before .before .before .before .before .pre .0, c .before .before .before .before .before .before .before .before .before .before .before .before .before .before .before .before .before .before .before .before .pre .1 .0, c .before .before .before .before .before .before .steps .ensures .room), omega (arith, o, c .before .before .before .before .before .before .before .before .before .before .before .before .before .before .before .lead .ensures .1 .1 .1 .0 .0, c .before .before .before .before .before .before .before .before .before .before .before .before .before .before .before .lead .ensures .1 .1 .1 .0 .1, c .before .before .before .before .before .before .before .before .before .before .before .before .before .before .before .lead .ensures .1 .1 .1 .1 .0, c .before .before .before .before .before .before .before .before .before .before .before .before .before .before .out .given, c .before .before .before .before .before .before .before .before .before .before .before .before .before .before .before .before .before .before .before .before .pre .0, c .before .before .before .before .before .before .before .before .before .before .before .before .before .before .before .before .before .before .before .before .pre .1 .0, c .before .before .before .before .before .before .steps .ensures .rows)), whole-at (machOf (c .before .before .before .before .before .before .before .before .before .before .before .before .before .before .before .before .before .before .before .before .args .kept) (c .before .before .before .before .before .before .before .before .before .before .before .before .before .before .before .before .before .before .before .before .args .line .now) (c .before .before .before .before .before .before .before .before .before .before .before .before .before .before .before .before .before .before .before .before .args .run)) _ (c .before .before .before .before .before .before .before .before .before .before .before .before .before .before .before .before .before .before .before .before .args .s .now) (c .before .before .before .before .before .before .before .before .before .before .before .before .before .before .before .before .before .before .before .before .pre .1 .1) (q .0)))))
+returns c = let o = rest-most (c .before .before .before .before .before .before .before .before .before .before .before .before .before .before .before .before .before .before .before .before .args .s .now) (c .before .before .before .before .before .before .before .before .before .before .before .before .before .before .before .lead .result .used) in let q = fed-on (machOf (c .before .before .before .before .before .before .before .before .before .before .before .before .before .before .before .before .before .before .before .before .args .kept) (c .before .before .before .before .before .before .before .before .before .before .before .before .before .before .before .before .before .before .before .before .args .line .now) (c .before .before .before .before .before .before .before .before .before .before .before .before .before .before .before .before .before .before .before .before .args .run)) (c .before .before .before .before .before .before .before .before .before .before .before .before .before .before .before .before .before .before .before .before .args .s .now) (c .before .before .before .before .before .before .before .before .before .before .before .before .before .before .before .lead .result .used) (c .before .before .before .before .before .before .before .before .before .before .before .before .before .before .before .lead .result .kept) _ _ (c .before .before .before .before .before .before .before .before .before .before .before .before .before .before .before .lead .result .run) (c .before .before .before .before .before .before .steps .result) (c .before .before .before .before .before .before .before .before .before .before .before .before .before .before .before .before .before .before .before .before .args .out .now) _ _ (c .before .before .before .before .before .before .before .before .before .before .before .before .before .before .before .before .before .before .before .before .args .kept .at) (c .hold .result) (take (length (c .before .before .before .before .before .before .before .before .before .before .before .before .before .before .before .before .before .before .before .before .args .s .now) - c .before .before .before .before .before .before .before .before .before .before .before .before .before .before .before .lead .result .used) (drop (c .before .before .before .before .before .before .before .before .before .before .before .before .before .before .before .lead .result .used) (c .before .before .before .before .before .before .before .before .before .before .before .before .before .before .before .before .before .before .before .before .args .s .now))) _ (part-all (c .before .before .before .before .before .before .before .before .before .before .before .before .before .before .before .before .before .before .before .before .args .s .now) (c .before .before .before .before .before .before .before .before .before .before .before .before .before .before .before .lead .result .used)) (part-all (take (length (c .before .before .before .before .before .before .before .before .before .before .before .before .before .before .before .before .before .before .before .before .args .s .now) - c .before .before .before .before .before .before .before .before .before .before .before .before .before .before .before .lead .result .used) (drop (c .before .before .before .before .before .before .before .before .before .before .before .before .before .before .before .lead .result .used) (c .before .before .before .before .before .before .before .before .before .before .before .before .before .before .before .before .before .before .before .before .args .s .now))) (c .before .before .before .before .before .before .steps .result .used)) (c .before .before .before .before .before .before .before .before .before .before .before .before .before .before .before .lead .ensures .0) (c .before .before .before .before .before .before .before .before .before .before .before .before .before .before .before .lead .ensures .1 .0, c .before .before .before .before .before .before .before .before .before .before .before .before .before .before .before .lead .ensures .1 .1 .0) (sym (c .before .before .before .before .before .before .before .before .before .at-step .ensures) ∙ c .before .before .before .before .before .before .before .before .if1 .taken) (step-sound (c .before .before .before .before .before .before .before .before .before .before .before .before .before .before .before .lead .result .kept .phase) (c .before .before .before .before .before .before .before .before .before .before .before .before .before .before .before .lead .result .kept .len) (c .before .before .before .before .before .before .before .before .before .before .before .before .before .before .before .lead .result .run) (sym (c .before .before .before .before .before .before .before .before .before .at-step .ensures) ∙ c .before .before .before .before .before .before .before .before .if1 .taken) (whole-at (machOf (c .before .before .before .before .before .before .before .before .before .before .before .before .before .before .before .before .before .before .before .before .args .kept) (c .before .before .before .before .before .before .before .before .before .before .before .before .before .before .before .before .before .before .before .before .args .line .now) (c .before .before .before .before .before .before .before .before .before .before .before .before .before .before .before .before .before .before .before .before .args .run)) _ (take (c .before .before .before .before .before .before .before .before .before .before .before .before .before .before .before .lead .result .used) (c .before .before .before .before .before .before .before .before .before .before .before .before .before .before .before .before .before .before .before .before .args .s .now)) (c .before .before .before .before .before .before .before .before .before .before .before .before .before .before .before .before .before .before .before .before .pre .1 .1) (c .before .before .before .before .before .before .before .before .before .before .before .before .before .before .before .lead .ensures .0) .0)) (c .before .before .before .before .before .before .steps .ensures) (c .hold .ensures) (omega (arith, c .before .before .before .before .before .before .before .before .before .before .before .before .before .before .before .before .before .before .before .before .pre .0)) in (q .0, (q .1 .0, (q .1 .1, ((omega (arith, o, c .before .before .before .before .before .before .before .before .before .before .before .before .before .before .before .lead .ensures .1 .1 .1 .0 .0, c .before .before .before .before .before .before .before .before .before .before .before .before .before .before .before .lead .ensures .1 .1 .1 .0 .1, c .before .before .before .before .before .before .before .before .before .before .before .before .before .before .before .lead .ensures .1 .1 .1 .1 .0, c .before .before .before .before .before .before .before .before .before .before .before .before .before .before .out .given, c .before .before .before .before .before .before .before .before .before .before .before .before .before .before .before .before .before .before .before .before .pre .0, c .before .before .before .before .before .before .before .before .before .before .before .before .before .before .before .before .before .before .before .before .pre .1 .0, c .before .before .before .before .before .before .steps .ensures .room), omega (arith, o, c .before .before .before .before .before .before .before .before .before .before .before .before .before .before .before .lead .ensures .1 .1 .1 .0 .0, c .before .before .before .before .before .before .before .before .before .before .before .before .before .before .before .lead .ensures .1 .1 .1 .0 .1, c .before .before .before .before .before .before .before .before .before .before .before .before .before .before .before .lead .ensures .1 .1 .1 .1 .0, c .before .before .before .before .before .before .before .before .before .before .before .before .before .before .out .given, c .before .before .before .before .before .before .before .before .before .before .before .before .before .before .before .before .before .before .before .before .pre .0, c .before .before .before .before .before .before .before .before .before .before .before .before .before .before .before .before .before .before .before .before .pre .1 .0, c .before .before .before .before .before .before .steps .ensures .rows)), whole-at (machOf (c .before .before .before .before .before .before .before .before .before .before .before .before .before .before .before .before .before .before .before .before .args .kept) (c .before .before .before .before .before .before .before .before .before .before .before .before .before .before .before .before .before .before .before .before .args .line .now) (c .before .before .before .before .before .before .before .before .before .before .before .before .before .before .before .before .before .before .before .before .args .run)) _ (c .before .before .before .before .before .before .before .before .before .before .before .before .before .before .before .before .before .before .before .before .args .s .now) (c .before .before .before .before .before .before .before .before .before .before .before .before .before .before .before .before .before .before .before .before .pre .1 .1) (q .0)))))
 
 same-length-2 : tie.Need-same-length-2
 same-length-2 c = search needs

@@ -4,7 +4,6 @@ use borrow.Author.Needs.{needs}
 use lib.ListN.{length, drop}
 use mathlib.Core.Path.{_≡_, sym, _∙_}
 use native.Mathlib.Omega.{arith}
-use Rattle.parts.specs.Parts.{emptySlot}
 use Rattle.run.proofs.GatherLaws.{first-end, first-here, first-next}
 use Rattle.run.proofs.gather.first_free.Statement.{statement}
 use Rattle.run.proofs.gather.first_free.Tie as tie
@@ -39,7 +38,7 @@ loop-less c = search needs
 
 loop-again : tie.Need-loop-again Inv-loop μ-loop
 loop-again c =
-    let more = first-next (c .before .before .before .before .before .args .t1) (c .before .before .before .before .loop .j) emptySlot (omega arith) (sym (c .before .is-empty .ensures) ∙ (c .if2 .left)) in
+    let more = first-next (c .before .before .before .before .before .args .t1) (c .before .before .before .before .loop .j) (c .before .before .before .before .loop .j) (sym (c .before .is-empty .ensures) ∙ (c .if2 .left)) in
     (omega arith, (c .before .before .before .before .loop .inv .1), (c .before .before .before .before .loop .inv .2) ∙ more)
 
 returns : tie.Need-returns Inv-loop μ-loop
@@ -49,7 +48,7 @@ returns c =
 
 returns-2 : tie.Need-returns-2 Inv-loop μ-loop
 returns-2 c =
-    let here = first-here (c .before .before .before .before .before .args .t1) (c .before .before .before .before .loop .j) emptySlot (omega arith) (sym (c .before .is-empty .ensures) ∙ (c .if2 .taken)) in
+    let here = first-here (c .before .before .before .before .before .args .t1) (c .before .before .before .before .loop .j) (c .before .before .before .before .loop .j) (sym (c .before .is-empty .ensures) ∙ (c .if2 .taken)) in
     sym ((c .before .before .before .before .loop .inv .2) ∙ here)
 
 pub first-free-spec : {M : Type 1} → statement M

@@ -8,7 +8,7 @@ use Rattle.text.proofs.AheadLaws.{word-fits, one-fits, one-leads, uncle
 use Rattle.text.proofs.FieldLaws.{from}
 use Rattle.text.proofs.ahead.one_ahead.Statement.{statement}
 use Rattle.text.proofs.ahead.one_ahead.Tie as tie
-use Rattle.text.specs.Ahead.{Leads}
+use Rattle.text.specs.Ends.{Leads}
 use Rattle.text.specs.Pieces.{numberAt}
 use Rattle.text.specs.Rows.{oneStep}
 use Rattle.text.specs.declared.field.Number.the-variants.{Value}

@@ -8,7 +8,7 @@ use Rattle.text.proofs.AheadLaws.{word-fits, two-fits, two-leads, uncle
 use Rattle.text.proofs.FieldLaws.{from}
 use Rattle.text.proofs.ahead.two_ahead.Statement.{statement}
 use Rattle.text.proofs.ahead.two_ahead.Tie as tie
-use Rattle.text.specs.Ahead.{Leads}
+use Rattle.text.specs.Ends.{Leads}
 use Rattle.text.specs.Pieces.{pairAt}
 use Rattle.text.specs.Rows.{twoStep}
 use Rattle.text.specs.declared.field.Pair.the-variants.{Values}

@@ -1,9 +1,9 @@
--- `rows::find::find` meets its contract: a step row that is plain to see, or one to the next LF. Assumes nothing.
-use Rattle.rows.proofs.RowLaws.{led-found}
+-- `text::whole::find` meets its contract: a step row that is plain to see, or one to the next LF. Assumes nothing.
+use Rattle.text.proofs.EndLaws.{led-found}
 use native.Mathlib.Omega.{arith}
 use borrow.Author.Needs.{needs}
-use Rattle.rows.proofs.find.find.Statement.{statement}
-use Rattle.rows.proofs.find.find.Tie as tie
+use Rattle.text.proofs.whole.find.Statement.{statement}
+use Rattle.text.proofs.whole.find.Tie as tie
 
 sub-step-ahead : tie.Need-sub-step-ahead
 sub-step-ahead c = search needs

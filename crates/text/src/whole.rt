@@ -1,20 +1,33 @@
 // The next whole row of a part of the input, where steps are due.
-use super::line::trim;
+use super::ahead::Ahead;
+use super::ahead::step_ahead;
+use super::row::Row;
+use super::row::parse;
 use parts::Step;
-use text::Ahead;
-use text::Row;
-use text::step_ahead;
 ghost use mathlib.Core.Path.{_≡_};
 ghost use Prim.Native.Nat.{_≤_, _<_, _-_};
 ghost use lib.ListN.{length, getD, take, drop};
-ghost use Rattle.text.specs.Ahead.{breaks};
+ghost use Rattle.text.specs.Ends.{unended, breaks, stepIn, OneRow};
 ghost use Rattle.text.specs.Rows.{rowOf};
-ghost use Rattle.rows.specs.Machine.{OneRow, stepIn};
 
 // The step, `Other` where the row is none, and the place behind the row's LF; the place where it begins, if no LF comes.
 pub struct Found {
     pub step: Step,
     pub end: usize,
+}
+
+// How long a row is without one CR at its end.
+pub fn trim(l: &[u8]) -> usize
+    ensures { λ r. ⌜ (take r (now (l .entry)) ≡ unended (now (l .entry))) × (r ≤ length (now (l .entry))) ⌝ }
+{
+    let n = l.len();
+    if 0 < n {
+        if l[n - 1] == b'\r' {
+            return n - 1;
+        }
+        return n;
+    }
+    n
 }
 
 // Where the next LF is, or the end.
@@ -38,7 +51,7 @@ fn line_end(s: &[u8], from: usize) -> usize
 fn step_in(l: &[u8]) -> Step
     ensures { λ r. ⌜ r ≡ stepIn (rowOf (now (l .entry))) ⌝ }
 {
-    match text::parse(l) {
+    match parse(l) {
         Row::Other => Step::Other,
         Row::Plan(_, _, _, _) => Step::Other,
         Row::Step(x) => x,

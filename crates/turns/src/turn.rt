@@ -1,6 +1,5 @@
 // Whole step rows, straight from a part of the input. One function owns the run and changes it in place: to hand it on would copy its five
 // kilobytes at each row. A reached run is undamaged, so that no step is checked again.
-use super::find::find;
 use cabinet::keeps_older;
 use client::Asking;
 use client::Hears;
@@ -34,6 +33,7 @@ use run::Run;
 use run::is_empty;
 use run::others_marked;
 use run::sight;
+use text::find;
 ghost use mathlib.Core.Path.{_≡_};
 ghost use mathlib.Core.Bool.{true};
 ghost use Prim.Native.Nat.{_≤_, _<_, _+_, _*_, _^_};
@@ -42,8 +42,8 @@ ghost use Rattle.parts.specs.declared.answer.Answer.the-variants.{Refused, Acce
 ghost use Rattle.print.specs.Put.{put};
 ghost use Rattle.print.specs.Rows.{room, stepText};
 ghost use Rattle.run.specs.Undamaged.{undamaged};
-ghost use Rattle.text.specs.Ahead.{breaks};
-ghost use Rattle.rows.specs.Machine.{Took};
+ghost use Rattle.text.specs.Ends.{breaks};
+ghost use Rattle.turns.specs.Turns.{Took};
 
 // How many bytes the rows had, where the next answer goes, the next row's number, and the run.
 pub struct Went {

@@ -1,12 +1,10 @@
 -- One turn of the loop over whole rows: what each case changes in place is what the step puts back. Assumes nothing.
 use Prim.Native.Nat.{ℕ, zero, suc, _+_, _≤_, _<_}
 use native.Mathlib.Omega.{arith}
-use mathlib.Core.Bool.{Bool, true, false, cond}
+use mathlib.Core.Bool.{true, false}
 use mathlib.Core.List.{List, [], _∷_}
 use mathlib.Core.Path.{_≡_, refl, sym, ap, _∙_}
-use lib.ListN.{getD, set, drop}
-use lib.Seq.{drop-nil}
-use native.Mathlib.Numerals.{add-one}
+use lib.ListN.{getD, set}
 use borrow.Author.Tests.{lt-leb, le-leb}
 use Rattle.cabinet.specs.declared.entry.Entry.{Entry}
 use Rattle.cabinet.specs.declared.record.Cabinet.{Cabinet}
@@ -24,14 +22,14 @@ use Rattle.parts.specs.declared.message.Held.the-variants.{Empty, Request, Repl
 use Rattle.parts.specs.declared.message.Slot.{Slot}
 use Rattle.parts.specs.declared.step.Asked.{Asked}
 use Rattle.parts.specs.declared.step.Step.{Step}
-use Rattle.parts.specs.Parts.{emptySlot, noCabinet}
+use Rattle.parts.specs.Parts.{noCabinet}
 use Rattle.client.specs.Small.{askingAs}
 use Rattle.client.specs.declared.begin.Asking.the-variants.{Puts}
 use Rattle.decide.specs.Cabinets.{deedOf}
 use Rattle.decide.specs.Decide.{losing, losesBy}
 use Rattle.run.specs.declared.Run.{Run}
 use Rattle.run.specs.declared.Stepped.{Stepped}
-use Rattle.run.specs.Gather.{isEmpty, firstFrom}
+use Rattle.run.specs.Gather.{isEmpty}
 use Rattle.run.specs.Steps.{decideOf, doneAt, changed, putBack, stepOf}
 use Rattle.run.specs.Undamaged.{undamaged}
 use Rattle.run.proofs.ArmLaws.{arm}
@@ -40,31 +38,6 @@ use Rattle.run.proofs.MeetLaws.{askedOf}
 -- what was admitted is r, and the case says that this is a
 pub turn : (run : Run) (x : Step) → undamaged run ≡ true → (r a : Asked) → r ≡ askedOf run x → r ≡ a → (d : Decision) → decideOf run a ≡ d → stepOf run x ≡ putBack run d
 turn run x whole r a e g d h = arm run x whole a (sym g ∙ e) d h
-
--- the scan for a free slot: past the end there is none that is not
-pub free-here : (l : List Slot) (i k : ℕ) → isEmpty (getD l i emptySlot .held) ≡ true → firstFrom k (drop i l) ≡ k
-unfolding firstFrom
-free-here [] i k e = rw (drop-nil {A = Slot} i)
-free-here (t ∷ l) zero k e = rw e
-free-here (t ∷ l) (suc i) k e = free-here l i k e
-
-later : (l : List Slot) (i k : ℕ) → isEmpty (getD l i emptySlot .held) ≡ false → firstFrom k (drop i l) ≡ firstFrom (suc k) (drop (suc i) l)
-unfolding firstFrom
-later [] i k e = absurd (let z : _≡_ {A = ℕ} 0 1 = cc in omega arith)
-later (t ∷ l) zero k e = rw e
-later (t ∷ l) (suc i) k e = later l i k e
-
-pub free-later : (l : List Slot) (i k : ℕ) → isEmpty (getD l i emptySlot .held) ≡ false → firstFrom k (drop i l) ≡ firstFrom (k + 1) (drop (i + 1) l)
-free-later l i k e = rw (add-one, add-one) (later l i k e)
-
-pub free-least : (l : List Slot) (k : ℕ) → k ≤ firstFrom k l
-unfolding firstFrom
-free-least [] k = omega arith
-free-least (t ∷ l) k = go (isEmpty (t .held)) (free-least l (suc k))
-  where
-    go : (b : Bool) → suc k ≤ firstFrom (suc k) l → k ≤ cond b k (firstFrom (suc k) l)
-    go true q = omega arith
-    go false q = omega (arith, q)
 
 -- a send that finds slot j free, and one that finds none
 pub sent-in : (free j : ℕ) (t : Slot) → free ≡ j → j < 64 → askingAs free (Puts t) ≡ Yes (Sent (j + 1)) (OfSlot j t)

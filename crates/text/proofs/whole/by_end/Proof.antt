@@ -1,12 +1,12 @@
--- `rows::find::by_end` meets its contract: no LF comes, or one row to the next. Assumes nothing.
-use Rattle.rows.proofs.RowLaws.{ended-row}
-use Rattle.rows.proofs.BreakLaws.{rest-bare}
+-- `text::whole::by_end` meets its contract: no LF comes, or one row to the next. Assumes nothing.
+use Rattle.text.proofs.EndLaws.{ended-row}
+use Rattle.text.proofs.BreakLaws.{rest-bare}
 use mathlib.Core.Path.{sym}
 use lib.Seq.{length-take-le}
 use native.Mathlib.Omega.{arith}
 use borrow.Author.Needs.{needs}
-use Rattle.rows.proofs.find.by_end.Statement.{statement}
-use Rattle.rows.proofs.find.by_end.Tie as tie
+use Rattle.text.proofs.whole.by_end.Statement.{statement}
+use Rattle.text.proofs.whole.by_end.Tie as tie
 
 line-end-requires : tie.Need-line-end-requires
 line-end-requires c κs = search needs

@@ -13,12 +13,13 @@ use Rattle.parts.specs.declared.answer.Deed.the-variants.{GoDown, ComeUp, GoBac
 use Rattle.parts.specs.declared.answer.Outcome.the-variants.{Begun, Left, Answered, Stopped, Restarted, RolledBack}
 use Rattle.parts.specs.declared.answer.Sight.{Sight}
 use Rattle.parts.specs.declared.message.Slot.{Slot}
-use Rattle.rows.proofs.TakingLaws.{Taking, taking-none, taking-room, taking-row, taking-next, taking-end}
-use Rattle.rows.proofs.TurnLaws.{turn, free-here, free-later, free-least, sent-in, sent-nowhere, lost-none, lost-one, kept-put}
-use Rattle.rows.proofs.steps.steps.Statement.{statement}
-use Rattle.rows.proofs.steps.steps.Tie as tie
+use Rattle.turns.proofs.TakingLaws.{Taking, taking-none, taking-room, taking-row, taking-next, taking-end}
+use Rattle.turns.proofs.TurnLaws.{turn, sent-in, sent-nowhere, lost-none, lost-one, kept-put}
+use Rattle.turns.proofs.turn.steps.Statement.{statement}
+use Rattle.turns.proofs.turn.steps.Tie as tie
 use Rattle.run.proofs.ArmLaws.{decide-barred, decide-begins, decide-leaves, decide-sends, decide-loses, decide-stops, decide-restarts, decide-rolls, decide-empty, decide-request, decide-reply, begins-place, leaves-place, sends-places, delivers-place, loses-place, stops-place, restarts-place, rolls-place, client-operation, client-best, request-places, reply-places, reply-told}
 use Rattle.run.proofs.FitLaws.{steps-most}
+use Rattle.run.proofs.GatherLaws.{first-here, first-next, first-least}
 use Rattle.run.proofs.TakeLaws.{cabinet-put, offering-put}
 use Rattle.run.specs.Gather.{firstFrom, othersFrom}
 use Rattle.run.specs.Steps.{changed}
@@ -226,7 +227,7 @@ loop2-less : tie.Need-loop2-less Inv-loop2 μ-loop2 Inv-loop μ-loop
 loop2-less c = omega (arith, (c .before .before .before .loop2-test .taken))
 
 loop2-again : tie.Need-loop2-again Inv-loop2 μ-loop2 Inv-loop μ-loop
-loop2-again c = (omega (arith, (c .before .before .before .loop2-test .taken)), (c .before .before .before .before .loop2 .inv .1) ∙ free-later ((c .before .before .before .before .before .before .before .before .before .before .before .before .before .before .before .before .before .before .loop .run) .slots) (c .before .before .before .before .loop2 .j) (c .before .before .before .before .loop2 .j) (sym (c .before .is-empty .ensures) ∙ (c .if2 .left)))
+loop2-again c = (omega (arith, (c .before .before .before .loop2-test .taken)), (c .before .before .before .before .loop2 .inv .1) ∙ first-next ((c .before .before .before .before .before .before .before .before .before .before .before .before .before .before .before .before .before .before .loop .run) .slots) (c .before .before .before .before .loop2 .j) (c .before .before .before .before .loop2 .j) (sym (c .before .is-empty .ensures) ∙ (c .if2 .left)))
 
 cast-request : tie.Need-cast-request Inv-loop2 μ-loop2 Inv-loop μ-loop
 cast-request c = search needs
@@ -251,7 +252,7 @@ loop-less-7 c = omega (arith, (c .before .before .before .before .before .before
 
 loop-again-7 : tie.Need-loop-again-7 Inv-loop2 μ-loop2 Inv-loop μ-loop
 unfolding changed
-loop-again-7 c = let here : firstFrom (c .before .before .before .before .before .before .loop2 .j) (drop (c .before .before .before .before .before .before .loop2 .j) ((c .before .before .before .before .before .before .before .before .before .before .before .before .before .before .before .before .before .before .before .before .loop .run) .slots)) ≡ (c .before .before .before .before .before .before .loop2 .j) = ⊎-elim (λ w. absurd (omega (arith, w .left, (c .before .before .before .before .if3 .taken)))) (λ w. free-here ((c .before .before .before .before .before .before .before .before .before .before .before .before .before .before .before .before .before .before .before .before .loop .run) .slots) (c .before .before .before .before .before .before .loop2 .j) (c .before .before .before .before .before .before .loop2 .j) (sym (w .2 .ensures) ∙ w .3 .taken)) (c .before .before .before .before .before .loop2-test .came) in taking-next (c .before .before .before .before .before .before .before .before .before .before .before .before .before .before .before .before .before .before .before .before .before .before .before .args .s .now) (c .before .before .before .before .before .before .before .before .before .before .before .before .before .before .before .before .before .before .before .before .loop .i) ((c .before .before .before .before .before .before .before .before .before .before .before .before .before .before .before .before .before .before .before .find .result) .end) ((c .before .before .before .before .before .before .before .before .before .before .before .before .before .before .before .before .before .before .before .find .result) .step) (c .before .before .before .before .before .before .before .before .before .before .before .before .before .before .before .before .before .if1 .left) ((c .before .before .before .before .before .before .before .before .before .before .before .before .before .before .before .before .before .before .before .find .ensures .0 .1)) ((c .before .before .before .before .before .before .before .before .before .before .before .before .before .before .before .before .before .before .before .find .ensures .1 .1) (c .before .before .before .before .before .before .before .before .before .before .before .before .before .before .before .before .before .if1 .left)) (c .before .before .before .before .before .before .before .before .before .before .before .before .before .before .before .before .before .before .before .before .before .before .before .args .at) (c .before .before .before .before .before .before .before .before .before .before .before .before .before .before .before .before .before .before .before .before .before .before .before .args .row) (c .before .before .before .before .before .before .before .before .before .before .before .before .before .before .before .before .before .before .before .before .before .before .before .args .t5) (c .before .before .before .before .before .before .before .before .before .before .before .before .before .before .before .before .before .before .before .before .before .before .before .args .out .now) (c .before .before .before .before .before .before .before .before .before .before .before .before .before .before .before .before .before .before .before .before .loop .out) (c .before .before .before .before .before .before .before .before .before .before .before .before .before .before .before .before .before .before .before .before .loop .o) (c .before .before .before .before .before .before .before .before .before .before .before .before .before .before .before .before .before .before .before .before .loop .n) (c .before .before .before .before .before .before .before .before .before .before .before .before .before .before .before .before .before .before .before .before .loop .run) (c .before .before .before .before .before .before .before .before .before .before .before .before .before .before .before .before .before .before .before .before .loop .inv) _ _ _ (sym (turn (c .before .before .before .before .before .before .before .before .before .before .before .before .before .before .before .before .before .before .before .before .loop .run) ((c .before .before .before .before .before .before .before .before .before .before .before .before .before .before .before .before .before .before .before .find .result) .step) ((c .before .before .before .before .before .before .before .before .before .before .before .before .before .before .before .before .before .before .before .before .loop .inv .sound)) (c .before .before .before .before .before .before .before .before .before .before .before .before .before .before .before .admit .result) _ (c .before .before .before .before .before .before .before .before .before .before .before .before .before .before .before .admit .ensures) (c .before .before .before .before .before .before .before .before .before .before .before .before .before .c3 .given .1) _ (decide-sends (c .before .before .before .before .before .before .before .before .before .before .before .before .before .before .before .before .before .before .before .before .loop .run) _ _ ∙ (c .before .before .before .before .before .before .before .before .before .before .asks .ensures) (firstFrom 0 ((c .before .before .before .before .before .before .before .before .before .before .before .before .before .before .before .before .before .before .before .before .loop .run) .slots)) ∙ ap (askingAs (firstFrom 0 ((c .before .before .before .before .before .before .before .before .before .before .before .before .before .before .before .before .before .before .before .before .loop .run) .slots))) (c .before .before .before .before .before .before .before .before .request .given .1) ∙ sent-in (firstFrom 0 ((c .before .before .before .before .before .before .before .before .before .before .before .before .before .before .before .before .before .before .before .before .loop .run) .slots)) (c .before .before .before .before .before .before .loop2 .j) _ ((c .before .before .before .before .before .before .loop2 .inv .1) ∙ here) (c .before .before .before .before .if3 .taken)))) ((c .before .before .put-sent .ensures .0)) ((c .before .before .put-sent .ensures .1))
+loop-again-7 c = let here : firstFrom (c .before .before .before .before .before .before .loop2 .j) (drop (c .before .before .before .before .before .before .loop2 .j) ((c .before .before .before .before .before .before .before .before .before .before .before .before .before .before .before .before .before .before .before .before .loop .run) .slots)) ≡ (c .before .before .before .before .before .before .loop2 .j) = ⊎-elim (λ w. absurd (omega (arith, w .left, (c .before .before .before .before .if3 .taken)))) (λ w. first-here ((c .before .before .before .before .before .before .before .before .before .before .before .before .before .before .before .before .before .before .before .before .loop .run) .slots) (c .before .before .before .before .before .before .loop2 .j) (c .before .before .before .before .before .before .loop2 .j) (sym (w .2 .ensures) ∙ w .3 .taken)) (c .before .before .before .before .before .loop2-test .came) in taking-next (c .before .before .before .before .before .before .before .before .before .before .before .before .before .before .before .before .before .before .before .before .before .before .before .args .s .now) (c .before .before .before .before .before .before .before .before .before .before .before .before .before .before .before .before .before .before .before .before .loop .i) ((c .before .before .before .before .before .before .before .before .before .before .before .before .before .before .before .before .before .before .before .find .result) .end) ((c .before .before .before .before .before .before .before .before .before .before .before .before .before .before .before .before .before .before .before .find .result) .step) (c .before .before .before .before .before .before .before .before .before .before .before .before .before .before .before .before .before .if1 .left) ((c .before .before .before .before .before .before .before .before .before .before .before .before .before .before .before .before .before .before .before .find .ensures .0 .1)) ((c .before .before .before .before .before .before .before .before .before .before .before .before .before .before .before .before .before .before .before .find .ensures .1 .1) (c .before .before .before .before .before .before .before .before .before .before .before .before .before .before .before .before .before .if1 .left)) (c .before .before .before .before .before .before .before .before .before .before .before .before .before .before .before .before .before .before .before .before .before .before .before .args .at) (c .before .before .before .before .before .before .before .before .before .before .before .before .before .before .before .before .before .before .before .before .before .before .before .args .row) (c .before .before .before .before .before .before .before .before .before .before .before .before .before .before .before .before .before .before .before .before .before .before .before .args .t5) (c .before .before .before .before .before .before .before .before .before .before .before .before .before .before .before .before .before .before .before .before .before .before .before .args .out .now) (c .before .before .before .before .before .before .before .before .before .before .before .before .before .before .before .before .before .before .before .before .loop .out) (c .before .before .before .before .before .before .before .before .before .before .before .before .before .before .before .before .before .before .before .before .loop .o) (c .before .before .before .before .before .before .before .before .before .before .before .before .before .before .before .before .before .before .before .before .loop .n) (c .before .before .before .before .before .before .before .before .before .before .before .before .before .before .before .before .before .before .before .before .loop .run) (c .before .before .before .before .before .before .before .before .before .before .before .before .before .before .before .before .before .before .before .before .loop .inv) _ _ _ (sym (turn (c .before .before .before .before .before .before .before .before .before .before .before .before .before .before .before .before .before .before .before .before .loop .run) ((c .before .before .before .before .before .before .before .before .before .before .before .before .before .before .before .before .before .before .before .find .result) .step) ((c .before .before .before .before .before .before .before .before .before .before .before .before .before .before .before .before .before .before .before .before .loop .inv .sound)) (c .before .before .before .before .before .before .before .before .before .before .before .before .before .before .before .admit .result) _ (c .before .before .before .before .before .before .before .before .before .before .before .before .before .before .before .admit .ensures) (c .before .before .before .before .before .before .before .before .before .before .before .before .before .c3 .given .1) _ (decide-sends (c .before .before .before .before .before .before .before .before .before .before .before .before .before .before .before .before .before .before .before .before .loop .run) _ _ ∙ (c .before .before .before .before .before .before .before .before .before .before .asks .ensures) (firstFrom 0 ((c .before .before .before .before .before .before .before .before .before .before .before .before .before .before .before .before .before .before .before .before .loop .run) .slots)) ∙ ap (askingAs (firstFrom 0 ((c .before .before .before .before .before .before .before .before .before .before .before .before .before .before .before .before .before .before .before .before .loop .run) .slots))) (c .before .before .before .before .before .before .before .before .request .given .1) ∙ sent-in (firstFrom 0 ((c .before .before .before .before .before .before .before .before .before .before .before .before .before .before .before .before .before .before .before .before .loop .run) .slots)) (c .before .before .before .before .before .before .loop2 .j) _ ((c .before .before .before .before .before .before .loop2 .inv .1) ∙ here) (c .before .before .before .before .if3 .taken)))) ((c .before .before .put-sent .ensures .0)) ((c .before .before .put-sent .ensures .1))
 
 refuse-requires-5 : tie.Need-refuse-requires-5 Inv-loop2 μ-loop2 Inv-loop μ-loop
 refuse-requires-5 c κs = taking-room (c .before .before .before .before .before .before .before .before .before .before .before .before .before .before .before .before .before .before .before .before .args .s .now) (c .before .before .before .before .before .before .before .before .before .before .before .before .before .before .before .before .before .loop .i) ((c .before .before .before .before .before .before .before .before .before .before .before .before .before .before .before .before .find .result) .end) ((c .before .before .before .before .before .before .before .before .before .before .before .before .before .before .before .before .find .result) .step) (c .before .before .before .before .before .before .before .before .before .before .before .before .before .before .if1 .left) ((c .before .before .before .before .before .before .before .before .before .before .before .before .before .before .before .before .find .ensures .0 .1)) ((c .before .before .before .before .before .before .before .before .before .before .before .before .before .before .before .before .find .ensures .1 .1) (c .before .before .before .before .before .before .before .before .before .before .before .before .before .before .if1 .left)) (c .before .before .before .before .before .before .before .before .before .before .before .before .before .before .before .before .before .before .before .before .args .at) (c .before .before .before .before .before .before .before .before .before .before .before .before .before .before .before .before .before .before .before .before .args .row) (c .before .before .before .before .before .before .before .before .before .before .before .before .before .before .before .before .before .before .before .before .args .t5) (c .before .before .before .before .before .before .before .before .before .before .before .before .before .before .before .before .before .before .before .before .args .out .now) (c .before .before .before .before .before .before .before .before .before .before .before .before .before .before .before .before .before .loop .out) (c .before .before .before .before .before .before .before .before .before .before .before .before .before .before .before .before .before .loop .o) (c .before .before .before .before .before .before .before .before .before .before .before .before .before .before .before .before .before .loop .n) (c .before .before .before .before .before .before .before .before .before .before .before .before .before .before .before .before .before .loop .run) (c .before .before .before .before .before .before .before .before .before .before .before .before .before .before .before .before .before .loop .inv)
@@ -261,7 +262,7 @@ loop-less-8 c = omega (arith, (c .before .before .before .before .before .before
 
 loop-again-8 : tie.Need-loop-again-8 Inv-loop2 μ-loop2 Inv-loop μ-loop
 unfolding changed
-loop-again-8 c = let none : 64 ≤ (firstFrom 0 ((c .before .before .before .before .before .before .before .before .before .before .before .before .before .before .before .before .before .before .before .before .loop .run) .slots)) = let q = free-least (drop (c .before .before .before .before .before .before .loop2 .j) ((c .before .before .before .before .before .before .before .before .before .before .before .before .before .before .before .before .before .before .before .before .loop .run) .slots)) (c .before .before .before .before .before .before .loop2 .j) in omega (arith, q, (c .before .before .before .before .before .before .loop2 .inv .1), (c .before .before .before .before .if3 .left)) in taking-next (c .before .before .before .before .before .before .before .before .before .before .before .before .before .before .before .before .before .before .before .before .before .before .before .args .s .now) (c .before .before .before .before .before .before .before .before .before .before .before .before .before .before .before .before .before .before .before .before .loop .i) ((c .before .before .before .before .before .before .before .before .before .before .before .before .before .before .before .before .before .before .before .find .result) .end) ((c .before .before .before .before .before .before .before .before .before .before .before .before .before .before .before .before .before .before .before .find .result) .step) (c .before .before .before .before .before .before .before .before .before .before .before .before .before .before .before .before .before .if1 .left) ((c .before .before .before .before .before .before .before .before .before .before .before .before .before .before .before .before .before .before .before .find .ensures .0 .1)) ((c .before .before .before .before .before .before .before .before .before .before .before .before .before .before .before .before .before .before .before .find .ensures .1 .1) (c .before .before .before .before .before .before .before .before .before .before .before .before .before .before .before .before .before .if1 .left)) (c .before .before .before .before .before .before .before .before .before .before .before .before .before .before .before .before .before .before .before .before .before .before .before .args .at) (c .before .before .before .before .before .before .before .before .before .before .before .before .before .before .before .before .before .before .before .before .before .before .before .args .row) (c .before .before .before .before .before .before .before .before .before .before .before .before .before .before .before .before .before .before .before .before .before .before .before .args .t5) (c .before .before .before .before .before .before .before .before .before .before .before .before .before .before .before .before .before .before .before .before .before .before .before .args .out .now) (c .before .before .before .before .before .before .before .before .before .before .before .before .before .before .before .before .before .before .before .before .loop .out) (c .before .before .before .before .before .before .before .before .before .before .before .before .before .before .before .before .before .before .before .before .loop .o) (c .before .before .before .before .before .before .before .before .before .before .before .before .before .before .before .before .before .before .before .before .loop .n) (c .before .before .before .before .before .before .before .before .before .before .before .before .before .before .before .before .before .before .before .before .loop .run) (c .before .before .before .before .before .before .before .before .before .before .before .before .before .before .before .before .before .before .before .before .loop .inv) _ _ _ (sym (turn (c .before .before .before .before .before .before .before .before .before .before .before .before .before .before .before .before .before .before .before .before .loop .run) ((c .before .before .before .before .before .before .before .before .before .before .before .before .before .before .before .before .before .before .before .find .result) .step) ((c .before .before .before .before .before .before .before .before .before .before .before .before .before .before .before .before .before .before .before .before .loop .inv .sound)) (c .before .before .before .before .before .before .before .before .before .before .before .before .before .before .before .admit .result) _ (c .before .before .before .before .before .before .before .before .before .before .before .before .before .before .before .admit .ensures) (c .before .before .before .before .before .before .before .before .before .before .before .before .before .c3 .given .1) _ (decide-sends (c .before .before .before .before .before .before .before .before .before .before .before .before .before .before .before .before .before .before .before .before .loop .run) _ _ ∙ (c .before .before .before .before .before .before .before .before .before .before .asks .ensures) (firstFrom 0 ((c .before .before .before .before .before .before .before .before .before .before .before .before .before .before .before .before .before .before .before .before .loop .run) .slots)) ∙ ap (askingAs (firstFrom 0 ((c .before .before .before .before .before .before .before .before .before .before .before .before .before .before .before .before .before .before .before .before .loop .run) .slots))) (c .before .before .before .before .before .before .before .before .request .given .1) ∙ sent-nowhere (firstFrom 0 ((c .before .before .before .before .before .before .before .before .before .before .before .before .before .before .before .before .before .before .before .before .loop .run) .slots)) _ none))) ((c .before .before .refuse5 .ensures .0)) ((c .before .before .refuse5 .ensures .1))
+loop-again-8 c = let none : 64 ≤ (firstFrom 0 ((c .before .before .before .before .before .before .before .before .before .before .before .before .before .before .before .before .before .before .before .before .loop .run) .slots)) = let q = first-least (drop (c .before .before .before .before .before .before .loop2 .j) ((c .before .before .before .before .before .before .before .before .before .before .before .before .before .before .before .before .before .before .before .before .loop .run) .slots)) (c .before .before .before .before .before .before .loop2 .j) in omega (arith, q, (c .before .before .before .before .before .before .loop2 .inv .1), (c .before .before .before .before .if3 .left)) in taking-next (c .before .before .before .before .before .before .before .before .before .before .before .before .before .before .before .before .before .before .before .before .before .before .before .args .s .now) (c .before .before .before .before .before .before .before .before .before .before .before .before .before .before .before .before .before .before .before .before .loop .i) ((c .before .before .before .before .before .before .before .before .before .before .before .before .before .before .before .before .before .before .before .find .result) .end) ((c .before .before .before .before .before .before .before .before .before .before .before .before .before .before .before .before .before .before .before .find .result) .step) (c .before .before .before .before .before .before .before .before .before .before .before .before .before .before .before .before .before .if1 .left) ((c .before .before .before .before .before .before .before .before .before .before .before .before .before .before .before .before .before .before .before .find .ensures .0 .1)) ((c .before .before .before .before .before .before .before .before .before .before .before .before .before .before .before .before .before .before .before .find .ensures .1 .1) (c .before .before .before .before .before .before .before .before .before .before .before .before .before .before .before .before .before .if1 .left)) (c .before .before .before .before .before .before .before .before .before .before .before .before .before .before .before .before .before .before .before .before .before .before .before .args .at) (c .before .before .before .before .before .before .before .before .before .before .before .before .before .before .before .before .before .before .before .before .before .before .before .args .row) (c .before .before .before .before .before .before .before .before .before .before .before .before .before .before .before .before .before .before .before .before .before .before .before .args .t5) (c .before .before .before .before .before .before .before .before .before .before .before .before .before .before .before .before .before .before .before .before .before .before .before .args .out .now) (c .before .before .before .before .before .before .before .before .before .before .before .before .before .before .before .before .before .before .before .before .loop .out) (c .before .before .before .before .before .before .before .before .before .before .before .before .before .before .before .before .before .before .before .before .loop .o) (c .before .before .before .before .before .before .before .before .before .before .before .before .before .before .before .before .before .before .before .before .loop .n) (c .before .before .before .before .before .before .before .before .before .before .before .before .before .before .before .before .before .before .before .before .loop .run) (c .before .before .before .before .before .before .before .before .before .before .before .before .before .before .before .before .before .before .before .before .loop .inv) _ _ _ (sym (turn (c .before .before .before .before .before .before .before .before .before .before .before .before .before .before .before .before .before .before .before .before .loop .run) ((c .before .before .before .before .before .before .before .before .before .before .before .before .before .before .before .before .before .before .before .find .result) .step) ((c .before .before .before .before .before .before .before .before .before .before .before .before .before .before .before .before .before .before .before .before .loop .inv .sound)) (c .before .before .before .before .before .before .before .before .before .before .before .before .before .before .before .admit .result) _ (c .before .before .before .before .before .before .before .before .before .before .before .before .before .before .before .admit .ensures) (c .before .before .before .before .before .before .before .before .before .before .before .before .before .c3 .given .1) _ (decide-sends (c .before .before .before .before .before .before .before .before .before .before .before .before .before .before .before .before .before .before .before .before .loop .run) _ _ ∙ (c .before .before .before .before .before .before .before .before .before .before .asks .ensures) (firstFrom 0 ((c .before .before .before .before .before .before .before .before .before .before .before .before .before .before .before .before .before .before .before .before .loop .run) .slots)) ∙ ap (askingAs (firstFrom 0 ((c .before .before .before .before .before .before .before .before .before .before .before .before .before .before .before .before .before .before .before .before .loop .run) .slots))) (c .before .before .before .before .before .before .before .before .request .given .1) ∙ sent-nowhere (firstFrom 0 ((c .before .before .before .before .before .before .before .before .before .before .before .before .before .before .before .before .before .before .before .before .loop .run) .slots)) _ none))) ((c .before .before .refuse5 .ensures .0)) ((c .before .before .refuse5 .ensures .1))
 
 enum-known-j : tie.Need-enum-known-j Inv-loop2 μ-loop2 Inv-loop μ-loop
 enum-known-j c = search needs

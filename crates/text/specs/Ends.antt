@@ -1,0 +1,39 @@
+-- Where a row ends, and what a row with its end says where steps are due.
+use Prim.Native.Nat.{ℕ, _+_, _-_, _≤_}
+use mathlib.Core.Bool.{cond}
+use mathlib.Core.List.{List, [], _∷_, _++_}
+use mathlib.Core.Path.{_≡_}
+use lib.Dec.{eqb}
+use lib.ListN.{length, getD, take}
+use Rattle.parts.specs.declared.step.Step.{Step}
+use Rattle.parts.specs.declared.step.Step.the-variants.{Other as NoKind}
+use Rattle.text.specs.Rows.{rowOf}
+use Rattle.text.specs.declared.row.Row.{Row}
+use Rattle.text.specs.declared.row.Row.the-variants.{Other, Plan, Step as RowStep}
+
+-- "Rows end in LF or CRLF, which isn't counted": one CR, whose byte is 13, belongs to the end
+unfoldable pub unended : List ℕ → List ℕ
+unended l = cond (eqb (getD l (length l - 1) 0) 13) (take (length l - 1) l) l
+
+-- how many LFs, whose byte is 10, are among these bytes
+unfoldable pub breaks : List ℕ → ℕ
+breaks [] = 0
+breaks (b ∷ l) = cond (eqb b 10) 1 0 + breaks l
+
+-- "A row of another form, a later plan row included, or over 64 bytes, is answered 2": as a step of no known kind is
+abbrev pub stepIn : Row → Step
+stepIn Other = NoKind
+stepIn (Plan n k r b) = NoKind
+stepIn (RowStep x) = x
+
+-- these bytes are a line and its LF, and the line asks for x
+pub record OneRow (l : List ℕ) (x : Step) : Type 0 where
+  pub line : List ℕ
+  pub ends : l ≡ line ++ (10 ∷ [])
+  pub unbroken : breaks line ≡ 0
+  pub asks : stepIn (rowOf (unended line)) ≡ x
+
+-- the first n bytes of s are such a row
+pub record Leads (s : List ℕ) (x : Step) (n : ℕ) : Type 0 where
+  pub within : n ≤ length s
+  pub row : OneRow (take n s) x

@@ -1,0 +1,4 @@
+pub mod Decides
+pub mod LineLaws
+pub mod TakingLaws
+pub mod TurnLaws
