@@ -9,7 +9,7 @@ use lib.Seq.{length-take-le, take-length}
 use lib.Dec.{ltb}
 use borrow.Author.Tests.{eq-eqb, ne-eqb, ltb-true, ltb-false}
 use Rattle.parts.specs.declared.step.Step.{Step}
-use Rattle.text.specs.Ends.{unended, breaks, stepIn, OneRow, Leads}
+use Rattle.text.specs.Ends.{unended, breaks, stepIn, OneRow, Finds, Leads}
 use Rattle.text.specs.Rows.{rowOf}
 use Rattle.text.proofs.BreakLaws.{breaks-append, part-all, part-lf}
 
@@ -85,13 +85,10 @@ lead-some s x n l h = let b : breaks (l .row .line ++ (10 ∷ drop n s)) ≡ 0 =
 
 -- any two finds agree: on the place, and where a row is there, on its step
 module _ (s : List ℕ) (i : ℕ) (within : i ≤ length s) where
-  abbrev pub Finds : ℕ → Step → Type 0
-  Finds e x = ((i ≤ e) × (e ≤ length s)) × ((e ≤ i → breaks (drop i s) ≡ 0) × (i < e → OneRow (take (e - i) (drop i s)) x))
-
-  finds-leads : (e : ℕ) (x : Step) → i < e → Finds e x → Leads (drop i s) x (e - i)
+  finds-leads : (e : ℕ) (x : Step) → i < e → Finds s i e x → Leads (drop i s) x (e - i)
   finds-leads e x h f = record { within = omega (arith, length-drop i s, f .0 .1); row = f .1 .1 h }
 
-  pub found-one : (e f : ℕ) (x y : Step) → Finds e x → Finds f y → (e ≡ f) × (i < e → x ≡ y)
+  pub found-one : (e f : ℕ) (x y : Step) → Finds s i e x → Finds s i f y → (e ≡ f) × (i < e → x ≡ y)
   found-one e f x y p q = go (ltb i e) (ltb i f) refl refl
     where
       go : (t u : Bool) → ltb i e ≡ t → ltb i f ≡ u → (e ≡ f) × (i < e → x ≡ y)

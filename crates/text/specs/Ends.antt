@@ -1,10 +1,10 @@
 -- Where a row ends, and what a row with its end says where steps are due.
-use Prim.Native.Nat.{ℕ, _+_, _-_, _≤_}
+use Prim.Native.Nat.{ℕ, _+_, _-_, _<_, _≤_}
 use mathlib.Core.Bool.{cond}
 use mathlib.Core.List.{List, [], _∷_, _++_}
 use mathlib.Core.Path.{_≡_}
 use lib.Dec.{eqb}
-use lib.ListN.{length, getD, take}
+use lib.ListN.{length, getD, take, drop}
 use Rattle.parts.specs.declared.step.Step.{Step}
 use Rattle.parts.specs.declared.step.Step.the-variants.{Other as NoKind}
 use Rattle.text.specs.Rows.{rowOf}
@@ -37,3 +37,10 @@ pub record OneRow (l : List ℕ) (x : Step) : Type 0 where
 pub record Leads (s : List ℕ) (x : Step) (n : ℕ) : Type 0 where
   pub within : n ≤ length s
   pub row : OneRow (take n s) x
+
+-- from i on, the next whole row ends at e and asks for x; or no LF comes, and e is i
+abbrev pub Finds : List ℕ → ℕ → ℕ → Step → Type 0
+Finds s i e x =
+    ((i ≤ e) × (e ≤ length s))
+    × ((e ≤ i → breaks (drop i s) ≡ 0)
+    × (i < e → OneRow (take (e - i) (drop i s)) x))

@@ -1,4 +1,4 @@
-// Rows of a step list: what one line says, and whether it is the header row.
+// Rows of a step list: what one line says, whether it is the header row, and where a row ends.
 mod ahead;
 mod bytes;
 mod field;

@@ -7,7 +7,7 @@ use parts::Step;
 ghost use mathlib.Core.Path.{_≡_};
 ghost use Prim.Native.Nat.{_≤_, _<_, _-_};
 ghost use lib.ListN.{length, getD, take, drop};
-ghost use Rattle.text.specs.Ends.{unended, breaks, stepIn, OneRow};
+ghost use Rattle.text.specs.Ends.{unended, breaks, stepIn, Finds};
 ghost use Rattle.text.specs.Rows.{rowOf};
 
 // The step, `Other` where the row is none, and the place behind the row's LF; the place where it begins, if no LF comes.
@@ -47,7 +47,6 @@ fn line_end(s: &[u8], from: usize) -> usize
     i
 }
 
-// A row that is no step is answered as a step of no known kind.
 fn step_in(l: &[u8]) -> Step
     ensures { λ r. ⌜ r ≡ stepIn (rowOf (now (l .entry))) ⌝ }
 {
@@ -58,11 +57,10 @@ fn step_in(l: &[u8]) -> Step
     }
 }
 
+// The same for any row: its end is looked for first.
 fn by_end(s: &[u8], i: usize) -> Found
     requires { ⌜ i ≤ length (now s) ⌝ }
-    ensures { λ r. ⌜ (i ≤ r .end) × (r .end ≤ length (now (s .entry))) ⌝ }
-    ensures { λ r. ⌜ (r .end ≤ i → breaks (drop i (now (s .entry))) ≡ 0) ⌝ }
-    ensures { λ r. ⌜ (i < r .end → OneRow (take (r .end - i) (drop i (now (s .entry)))) (r .step)) ⌝ }
+    ensures { λ r. ⌜ Finds (now (s .entry)) i (r .end) (r .step) ⌝ }
 {
     let e = line_end(s, i);
     if e == s.len() {
@@ -79,11 +77,10 @@ fn by_end(s: &[u8], i: usize) -> Found
     }
 }
 
+// The next whole row of s from i on.
 pub fn find(s: &[u8], i: usize) -> Found
     requires { ⌜ i ≤ length (now s) ⌝ }
-    ensures { λ r. ⌜ (i ≤ r .end) × (r .end ≤ length (now (s .entry))) ⌝ }
-    ensures { λ r. ⌜ (r .end ≤ i → breaks (drop i (now (s .entry))) ≡ 0) ⌝ }
-    ensures { λ r. ⌜ (i < r .end → OneRow (take (r .end - i) (drop i (now (s .entry)))) (r .step)) ⌝ }
+    ensures { λ r. ⌜ Finds (now (s .entry)) i (r .end) (r .step) ⌝ }
 {
     match step_ahead(&s[i..]) {
         Ahead::Unclear => by_end(s, i),
