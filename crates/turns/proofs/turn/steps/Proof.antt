@@ -1,5 +1,5 @@
 -- `steps` meets its contract. The invariant: the rows passed are answered, and there is room for the others. Assumes nothing.
-use Prim.Native.Nat.{ℕ, _+_, _-_, _≤_}
+use Prim.Native.Nat.{ℕ, _+_, _-_, _≤_, _<_}
 use Rattle.cabinet.specs.Cabinets.{restarted}
 use Rattle.cabinet.specs.Entries.{takes}
 use Rattle.client.specs.Small.{movedAs, askingAs, hearsAs}
@@ -8,11 +8,16 @@ use Rattle.decide.specs.Cabinets.{answersOf, deedOf}
 use Rattle.decide.specs.Small.{backAs}
 use Rattle.parts.specs.Parts.{emptySlot, noCabinet, sightOf}
 use Rattle.parts.specs.declared.answer.Change.the-variants.{OfSlot, Offering}
+use Rattle.parts.specs.declared.answer.Decision.{Decision}
 use Rattle.parts.specs.declared.answer.Decision.the-variants.{Yes}
 use Rattle.parts.specs.declared.answer.Deed.the-variants.{GoDown, ComeUp, GoBack}
 use Rattle.parts.specs.declared.answer.Outcome.the-variants.{Begun, Left, Answered, Stopped, Restarted, RolledBack}
 use Rattle.parts.specs.declared.answer.Sight.{Sight}
 use Rattle.parts.specs.declared.message.Slot.{Slot}
+use Rattle.parts.specs.declared.step.Asked.{Asked}
+use Rattle.parts.specs.declared.step.Step.{Step}
+use Rattle.print.specs.Put.{Wrote}
+use Rattle.print.specs.Rows.{stepText}
 use Rattle.turns.proofs.TakingLaws.{Taking, taking-none, taking-room, taking-row, taking-next, taking-end}
 use Rattle.turns.proofs.TurnLaws.{turn, sent-in, sent-nowhere, lost-none, lost-one, kept-put}
 use Rattle.turns.proofs.turn.steps.Statement.{statement}
@@ -22,11 +27,15 @@ use Rattle.run.proofs.FitLaws.{steps-most}
 use Rattle.run.proofs.GatherLaws.{first-here, first-next, first-least}
 use Rattle.run.proofs.TakeLaws.{cabinet-put, offering-put}
 use Rattle.run.specs.Gather.{firstFrom, othersFrom}
-use Rattle.run.specs.Steps.{changed}
+use Rattle.run.specs.Steps.{decideOf, changed, putBack, stepOf}
+use Rattle.run.specs.Undamaged.{undamaged}
+use Rattle.run.specs.declared.Run.{Run}
+use Rattle.run.specs.declared.Stepped.{Stepped}
 use borrow.Author.Needs.{needs}
 use lib.Dec.{ltb}
 use lib.ListN.{length, getD, drop}
-use mathlib.Core.Bool.{Bool, _||_}
+use mathlib.Core.Bool.{Bool, true, _||_}
+use mathlib.Core.List.{List}
 use mathlib.Core.Logic.{⊎-elim}
 use mathlib.Core.Path.{_≡_, refl, sym, ap, _∙_}
 use native.Mathlib.Omega.{arith}
@@ -44,13 +53,69 @@ abbrev μ-loop : tie.MeasureT-loop
 μ-loop s out₀ at row run₀ i₀ o₀ n₀ out run i o n = length s - i
 
 loop-holds : tie.Need-loop-holds Inv-loop2 μ-loop2 Inv-loop μ-loop
-loop-holds c = taking-none (c .before .before .args .s .now) (c .before .before .args .at) (c .before .before .args .row) (c .before .before .args .t5) (c .before .before .args .out .now) ((c .before .before .pre .0)) ((c .before .before .pre .1 .0)) ((c .before .before .pre .1 .1))
+loop-holds c =
+    taking-none (c .before .before .args .s .now) (c .before .before .args .at) (c .before .before .args .row) (c .before .before .args .t5) (c .before .before .args .out .now) ((c .before .before .pre .0)) ((c .before .before .pre .1 .0)) ((c .before .before .pre .1 .1))
 
 find-requires : tie.Need-find-requires Inv-loop2 μ-loop2 Inv-loop μ-loop
 find-requires c κs = (c .loop .inv .within)
 
 add-n : tie.Need-add-n Inv-loop2 μ-loop2 Inv-loop μ-loop
-add-n c = omega (arith, taking-row (c .before .before .before .before .before .before .before .args .s .now) (c .before .before .before .before .loop .i) ((c .before .before .before .find .result) .end) ((c .before .before .before .find .result) .step) (c .before .if1 .left) ((c .before .before .before .find .ensures .0 .1)) ((c .before .before .before .find .ensures .1 .1) (c .before .if1 .left)) (c .before .before .before .before .before .before .before .args .at) (c .before .before .before .before .before .before .before .args .row) (c .before .before .before .before .before .before .before .args .t5) (c .before .before .before .before .before .before .before .args .out .now) (c .before .before .before .before .loop .out) (c .before .before .before .before .loop .o) (c .before .before .before .before .loop .n) (c .before .before .before .before .loop .run) (c .before .before .before .before .loop .inv))
+add-n c =
+    omega (arith, taking-row (c .before .before .before .before .before .before .before .args .s .now) (c .before .before .before .before .loop .i) ((c .before .before .before .find .result) .end) ((c .before .before .before .find .result) .step) (c .before .if1 .left) ((c .before .before .before .find .ensures .0 .1)) ((c .before .before .before .find .ensures .1 .1) (c .before .if1 .left)) (c .before .before .before .before .before .before .before .args .at) (c .before .before .before .before .before .before .before .args .row) (c .before .before .before .before .before .before .before .args .t5) (c .before .before .before .before .before .before .before .args .out .now) (c .before .before .before .before .loop .out) (c .before .before .before .before .loop .o) (c .before .before .before .before .loop .n) (c .before .before .before .before .loop .run) (c .before .before .before .before .loop .inv))
+
+-- ---- the place behind admission, which every way through the loop passes: the call, the turn, the row found
+
+abbrev Here : Type 0
+Here = tie.After-admit Inv-loop2 μ-loop2 Inv-loop μ-loop
+
+abbrev call : Here → tie.Start Inv-loop2 μ-loop2 Inv-loop μ-loop
+call h = h .before .before .before .before .before .before .before .before
+
+abbrev turns : Here → tie.At-loop Inv-loop2 μ-loop2 Inv-loop μ-loop
+turns h = h .before .before .before .before .before
+
+abbrev finds : Here → tie.After-find Inv-loop2 μ-loop2 Inv-loop μ-loop
+finds h = h .before .before .before .before
+
+abbrev held : Here → Run
+held h = turns h .loop .run
+
+abbrev asks : Here → Step
+asks h = finds h .find .result .step
+
+sound : (h : Here) → undamaged (held h) ≡ true
+sound h = turns h .loop .inv .sound
+
+later : (h : Here) → turns h .loop .i < finds h .find .result .end
+later h = h .before .before .if1 .left
+
+within : (h : Here) → finds h .find .result .end ≤ length (call h .args .s .now)
+within h = finds h .find .ensures .0 .1
+
+-- the loop's measure falls
+shorter : (h : Here) → length (call h .args .s .now) - finds h .find .result .end < length (call h .args .s .now) - turns h .loop .i
+shorter h = omega (arith, later h, within h)
+
+-- an answer has room
+room : (h : Here) → turns h .loop .o + 69 ≤ length (turns h .loop .out)
+room h =
+    taking-room (call h .args .s .now) (turns h .loop .i) (finds h .find .result .end) (asks h) (later h) (within h) (finds h .find .ensures .1 .1 (later h))
+    (call h .args .at) (call h .args .row) (call h .args .t5) (call h .args .out .now) (turns h .loop .out) (turns h .loop .o) (turns h .loop .n) (held h) (turns h .loop .inv)
+
+-- what the step makes of the run, by what was admitted
+admitted : (h : Here) (a : Asked) → h .admit .result ≡ a → (d : Decision) → decideOf (held h) a ≡ d → stepOf (held h) (asks h) ≡ putBack (held h) d
+admitted h a e d f = turn (held h) (asks h) (sound h) (h .admit .result) a (h .admit .ensures) e d f
+
+-- what holds between two rows holds again
+next : (h : Here) (f : List ℕ) (q : ℕ) (r : Stepped) → stepOf (held h) (asks h) ≡ r
+    → Wrote (turns h .loop .out) (turns h .loop .o) (stepText (turns h .loop .n) (r .answer)) f q → q ≤ turns h .loop .o + 69
+    → Taking (call h .args .s .now) (call h .args .at) (call h .args .row) (call h .args .t5) (call h .args .out .now) (finds h .find .result .end) f q (turns h .loop .n + 1) (r .run)
+next h f q r e w most =
+    taking-next (call h .args .s .now) (turns h .loop .i) (finds h .find .result .end) (asks h) (later h) (within h) (finds h .find .ensures .1 .1 (later h))
+    (call h .args .at) (call h .args .row) (call h .args .t5) (call h .args .out .now) (turns h .loop .out) (turns h .loop .o) (turns h .loop .n) (held h) (turns h .loop .inv)
+    f q r (sym e) w most
+
+-- ---- the needs
 
 admit-requires : tie.Need-admit-requires Inv-loop2 μ-loop2 Inv-loop μ-loop
 admit-requires c κs = search needs
@@ -59,14 +124,20 @@ enum-known-why : tie.Need-enum-known-why Inv-loop2 μ-loop2 Inv-loop μ-loop
 enum-known-why c = search needs
 
 refuse-requires : tie.Need-refuse-requires Inv-loop2 μ-loop2 Inv-loop μ-loop
-refuse-requires c κs = taking-room (c .before .before .before .before .before .before .before .before .before .before .before .before .args .s .now) (c .before .before .before .before .before .before .before .before .before .loop .i) ((c .before .before .before .before .before .before .before .before .find .result) .end) ((c .before .before .before .before .before .before .before .before .find .result) .step) (c .before .before .before .before .before .before .if1 .left) ((c .before .before .before .before .before .before .before .before .find .ensures .0 .1)) ((c .before .before .before .before .before .before .before .before .find .ensures .1 .1) (c .before .before .before .before .before .before .if1 .left)) (c .before .before .before .before .before .before .before .before .before .before .before .before .args .at) (c .before .before .before .before .before .before .before .before .before .before .before .before .args .row) (c .before .before .before .before .before .before .before .before .before .before .before .before .args .t5) (c .before .before .before .before .before .before .before .before .before .before .before .before .args .out .now) (c .before .before .before .before .before .before .before .before .before .loop .out) (c .before .before .before .before .before .before .before .before .before .loop .o) (c .before .before .before .before .before .before .before .before .before .loop .n) (c .before .before .before .before .before .before .before .before .before .loop .run) (c .before .before .before .before .before .before .before .before .before .loop .inv)
+refuse-requires c κs = room (c .before .before .before .before)
 
 loop-less : tie.Need-loop-less Inv-loop2 μ-loop2 Inv-loop μ-loop
-loop-less c = omega (arith, (c .before .before .before .before .before .before .before .before .before .if1 .left), (c .before .before .before .before .before .before .before .before .before .before .before .find .ensures .0 .1))
+loop-less c = shorter (c .before .before .before .before .before .before .before)
 
 loop-again : tie.Need-loop-again Inv-loop2 μ-loop2 Inv-loop μ-loop
 unfolding changed
-loop-again c = taking-next (c .before .before .before .before .before .before .before .before .before .before .before .before .before .before .before .args .s .now) (c .before .before .before .before .before .before .before .before .before .before .before .before .loop .i) ((c .before .before .before .before .before .before .before .before .before .before .before .find .result) .end) ((c .before .before .before .before .before .before .before .before .before .before .before .find .result) .step) (c .before .before .before .before .before .before .before .before .before .if1 .left) ((c .before .before .before .before .before .before .before .before .before .before .before .find .ensures .0 .1)) ((c .before .before .before .before .before .before .before .before .before .before .before .find .ensures .1 .1) (c .before .before .before .before .before .before .before .before .before .if1 .left)) (c .before .before .before .before .before .before .before .before .before .before .before .before .before .before .before .args .at) (c .before .before .before .before .before .before .before .before .before .before .before .before .before .before .before .args .row) (c .before .before .before .before .before .before .before .before .before .before .before .before .before .before .before .args .t5) (c .before .before .before .before .before .before .before .before .before .before .before .before .before .before .before .args .out .now) (c .before .before .before .before .before .before .before .before .before .before .before .before .loop .out) (c .before .before .before .before .before .before .before .before .before .before .before .before .loop .o) (c .before .before .before .before .before .before .before .before .before .before .before .before .loop .n) (c .before .before .before .before .before .before .before .before .before .before .before .before .loop .run) (c .before .before .before .before .before .before .before .before .before .before .before .before .loop .inv) _ _ _ (sym (turn (c .before .before .before .before .before .before .before .before .before .before .before .before .loop .run) ((c .before .before .before .before .before .before .before .before .before .before .before .find .result) .step) ((c .before .before .before .before .before .before .before .before .before .before .before .before .loop .inv .sound)) (c .before .before .before .before .before .before .before .admit .result) _ (c .before .before .before .before .before .before .before .admit .ensures) (c .before .before .before .before .before .why .given .1) _ (decide-barred (c .before .before .before .before .before .before .before .before .before .before .before .before .loop .run) _))) ((c .before .before .refuse .ensures .0)) ((c .before .before .refuse .ensures .1))
+loop-again c =
+    let h = c .before .before .before .before .before .before .before in
+    next h _ _ _
+    (admitted h _ (c .before .before .before .before .before .why .given .1) _
+    (decide-barred (held h) _))
+    (c .before .before .refuse .ensures .0)
+    (c .before .before .refuse .ensures .1)
 
 enum-known-c : tie.Need-enum-known-c Inv-loop2 μ-loop2 Inv-loop μ-loop
 enum-known-c c = search needs
@@ -78,23 +149,33 @@ mul-client : tie.Need-mul-client Inv-loop2 μ-loop2 Inv-loop μ-loop
 mul-client c = search needs
 
 element-copy-out-client : tie.Need-element-copy-out-client Inv-loop2 μ-loop2 Inv-loop μ-loop
-element-copy-out-client c = begins-place (c .before .before .before .before .before .before .before .before .loop .run) ((c .before .before .before .before .before .before .before .find .result) .step) ((c .before .before .before .before .before .before .before .before .loop .inv .sound)) _ _ (sym (c .before .c .given .1) ∙ (c .before .before .before .admit .ensures))
+element-copy-out-client c =
+    let h = c .before .before .before in
+    begins-place (held h) (asks h) (sound h) _ _ (sym (c .before .c .given .1) ∙ h .admit .ensures)
 
 opens-requires : tie.Need-opens-requires Inv-loop2 μ-loop2 Inv-loop μ-loop
-opens-requires c κs = client-operation (c .before .before .before .before .before .before .before .before .before .loop .run) ((c .before .before .before .before .before .before .before .before .before .loop .inv .sound)) _
+opens-requires c κs = let h = c .before .before .before .before in client-operation (held h) (sound h) _
 
 enum-known-why-2 : tie.Need-enum-known-why-2 Inv-loop2 μ-loop2 Inv-loop μ-loop
 enum-known-why-2 c = search needs
 
 refuse-requires-2 : tie.Need-refuse-requires-2 Inv-loop2 μ-loop2 Inv-loop μ-loop
-refuse-requires-2 c κs = taking-room (c .before .before .before .before .before .before .before .before .before .before .before .before .before .before .before .before .before .args .s .now) (c .before .before .before .before .before .before .before .before .before .before .before .before .before .before .loop .i) ((c .before .before .before .before .before .before .before .before .before .before .before .before .before .find .result) .end) ((c .before .before .before .before .before .before .before .before .before .before .before .before .before .find .result) .step) (c .before .before .before .before .before .before .before .before .before .before .before .if1 .left) ((c .before .before .before .before .before .before .before .before .before .before .before .before .before .find .ensures .0 .1)) ((c .before .before .before .before .before .before .before .before .before .before .before .before .before .find .ensures .1 .1) (c .before .before .before .before .before .before .before .before .before .before .before .if1 .left)) (c .before .before .before .before .before .before .before .before .before .before .before .before .before .before .before .before .before .args .at) (c .before .before .before .before .before .before .before .before .before .before .before .before .before .before .before .before .before .args .row) (c .before .before .before .before .before .before .before .before .before .before .before .before .before .before .before .before .before .args .t5) (c .before .before .before .before .before .before .before .before .before .before .before .before .before .before .before .before .before .args .out .now) (c .before .before .before .before .before .before .before .before .before .before .before .before .before .before .loop .out) (c .before .before .before .before .before .before .before .before .before .before .before .before .before .before .loop .o) (c .before .before .before .before .before .before .before .before .before .before .before .before .before .before .loop .n) (c .before .before .before .before .before .before .before .before .before .before .before .before .before .before .loop .run) (c .before .before .before .before .before .before .before .before .before .before .before .before .before .before .loop .inv)
+refuse-requires-2 c κs = room (c .before .before .before .before .before .before .before .before .before)
 
 loop-less-2 : tie.Need-loop-less-2 Inv-loop2 μ-loop2 Inv-loop μ-loop
-loop-less-2 c = omega (arith, (c .before .before .before .before .before .before .before .before .before .before .before .before .before .before .if1 .left), (c .before .before .before .before .before .before .before .before .before .before .before .before .before .before .before .before .find .ensures .0 .1))
+loop-less-2 c = shorter (c .before .before .before .before .before .before .before .before .before .before .before .before)
 
 loop-again-2 : tie.Need-loop-again-2 Inv-loop2 μ-loop2 Inv-loop μ-loop
 unfolding changed
-loop-again-2 c = taking-next (c .before .before .before .before .before .before .before .before .before .before .before .before .before .before .before .before .before .before .before .before .args .s .now) (c .before .before .before .before .before .before .before .before .before .before .before .before .before .before .before .before .before .loop .i) ((c .before .before .before .before .before .before .before .before .before .before .before .before .before .before .before .before .find .result) .end) ((c .before .before .before .before .before .before .before .before .before .before .before .before .before .before .before .before .find .result) .step) (c .before .before .before .before .before .before .before .before .before .before .before .before .before .before .if1 .left) ((c .before .before .before .before .before .before .before .before .before .before .before .before .before .before .before .before .find .ensures .0 .1)) ((c .before .before .before .before .before .before .before .before .before .before .before .before .before .before .before .before .find .ensures .1 .1) (c .before .before .before .before .before .before .before .before .before .before .before .before .before .before .if1 .left)) (c .before .before .before .before .before .before .before .before .before .before .before .before .before .before .before .before .before .before .before .before .args .at) (c .before .before .before .before .before .before .before .before .before .before .before .before .before .before .before .before .before .before .before .before .args .row) (c .before .before .before .before .before .before .before .before .before .before .before .before .before .before .before .before .before .before .before .before .args .t5) (c .before .before .before .before .before .before .before .before .before .before .before .before .before .before .before .before .before .before .before .before .args .out .now) (c .before .before .before .before .before .before .before .before .before .before .before .before .before .before .before .before .before .loop .out) (c .before .before .before .before .before .before .before .before .before .before .before .before .before .before .before .before .before .loop .o) (c .before .before .before .before .before .before .before .before .before .before .before .before .before .before .before .before .before .loop .n) (c .before .before .before .before .before .before .before .before .before .before .before .before .before .before .before .before .before .loop .run) (c .before .before .before .before .before .before .before .before .before .before .before .before .before .before .before .before .before .loop .inv) _ _ _ (sym (turn (c .before .before .before .before .before .before .before .before .before .before .before .before .before .before .before .before .before .loop .run) ((c .before .before .before .before .before .before .before .before .before .before .before .before .before .before .before .before .find .result) .step) ((c .before .before .before .before .before .before .before .before .before .before .before .before .before .before .before .before .before .loop .inv .sound)) (c .before .before .before .before .before .before .before .before .before .before .before .before .admit .result) _ (c .before .before .before .before .before .before .before .before .before .before .before .before .admit .ensures) (c .before .before .before .before .before .before .before .before .before .before .c .given .1) _ (decide-begins (c .before .before .before .before .before .before .before .before .before .before .before .before .before .before .before .before .before .loop .run) _ _ ∙ (c .before .before .before .before .before .before .before .opens .ensures) ((c .before .before .before .before .before .before .before .before .before .before .c .given .0 .0)) ∙ ap (movedAs Begun ((c .before .before .before .before .before .before .before .before .before .before .c .given .0 .0))) (c .before .before .before .before .before .why2 .given .1)))) ((c .before .before .refuse2 .ensures .0)) ((c .before .before .refuse2 .ensures .1))
+loop-again-2 c =
+    let h = c .before .before .before .before .before .before .before .before .before .before .before .before in
+    next h _ _ _
+    (admitted h _ (c .before .before .before .before .before .before .before .before .before .before .c .given .1) _
+    (decide-begins (held h) _ _
+    ∙ (c .before .before .before .before .before .before .before .opens .ensures) (c .before .before .before .before .before .before .before .before .before .before .c .given .0 .0)
+    ∙ ap (movedAs Begun (c .before .before .before .before .before .before .before .before .before .before .c .given .0 .0)) (c .before .before .before .before .before .why2 .given .1)))
+    (c .before .before .refuse2 .ensures .0)
+    (c .before .before .refuse2 .ensures .1)
 
 enum-known-next : tie.Need-enum-known-next Inv-loop2 μ-loop2 Inv-loop μ-loop
 enum-known-next c = search needs
@@ -106,20 +187,30 @@ mul-next : tie.Need-mul-next Inv-loop2 μ-loop2 Inv-loop μ-loop
 mul-next c = search needs
 
 element-set-from-next : tie.Need-element-set-from-next Inv-loop2 μ-loop2 Inv-loop μ-loop
-element-set-from-next c = begins-place (c .before .before .before .before .before .before .before .before .before .before .before .before .before .loop .run) ((c .before .before .before .before .before .before .before .before .before .before .before .before .find .result) .step) ((c .before .before .before .before .before .before .before .before .before .before .before .before .before .loop .inv .sound)) _ _ (sym (c .before .before .before .before .before .before .c .given .1) ∙ (c .before .before .before .before .before .before .before .before .admit .ensures))
+element-set-from-next c =
+    let h = c .before .before .before .before .before .before .before .before in
+    begins-place (held h) (asks h) (sound h) _ _ (sym (c .before .before .before .before .before .before .c .given .1) ∙ h .admit .ensures)
 
 add-run : tie.Need-add-run Inv-loop2 μ-loop2 Inv-loop μ-loop
-add-run c = omega (arith, steps-most (c .before .before .before .before .before .before .before .before .before .before .before .before .before .loop .run) ((c .before .before .before .before .before .before .before .before .before .before .before .before .before .loop .inv .sound)))
+add-run c = let h = c .before .before .before .before .before .before .before .before in omega (arith, steps-most (held h) (sound h))
 
 accept-requires : tie.Need-accept-requires Inv-loop2 μ-loop2 Inv-loop μ-loop
-accept-requires c κs = taking-room (c .before .before .before .before .before .before .before .before .before .before .before .before .before .before .before .before .before .args .s .now) (c .before .before .before .before .before .before .before .before .before .before .before .before .before .before .loop .i) ((c .before .before .before .before .before .before .before .before .before .before .before .before .before .find .result) .end) ((c .before .before .before .before .before .before .before .before .before .before .before .before .before .find .result) .step) (c .before .before .before .before .before .before .before .before .before .before .before .if1 .left) ((c .before .before .before .before .before .before .before .before .before .before .before .before .before .find .ensures .0 .1)) ((c .before .before .before .before .before .before .before .before .before .before .before .before .before .find .ensures .1 .1) (c .before .before .before .before .before .before .before .before .before .before .before .if1 .left)) (c .before .before .before .before .before .before .before .before .before .before .before .before .before .before .before .before .before .args .at) (c .before .before .before .before .before .before .before .before .before .before .before .before .before .before .before .before .before .args .row) (c .before .before .before .before .before .before .before .before .before .before .before .before .before .before .before .before .before .args .t5) (c .before .before .before .before .before .before .before .before .before .before .before .before .before .before .before .before .before .args .out .now) (c .before .before .before .before .before .before .before .before .before .before .before .before .before .before .loop .out) (c .before .before .before .before .before .before .before .before .before .before .before .before .before .before .loop .o) (c .before .before .before .before .before .before .before .before .before .before .before .before .before .before .loop .n) (c .before .before .before .before .before .before .before .before .before .before .before .before .before .before .loop .run) (c .before .before .before .before .before .before .before .before .before .before .before .before .before .before .loop .inv)
+accept-requires c κs = room (c .before .before .before .before .before .before .before .before .before)
 
 loop-less-3 : tie.Need-loop-less-3 Inv-loop2 μ-loop2 Inv-loop μ-loop
-loop-less-3 c = omega (arith, (c .before .before .before .before .before .before .before .before .before .before .before .before .before .before .if1 .left), (c .before .before .before .before .before .before .before .before .before .before .before .before .before .before .before .before .find .ensures .0 .1))
+loop-less-3 c = shorter (c .before .before .before .before .before .before .before .before .before .before .before .before)
 
 loop-again-3 : tie.Need-loop-again-3 Inv-loop2 μ-loop2 Inv-loop μ-loop
 unfolding changed
-loop-again-3 c = taking-next (c .before .before .before .before .before .before .before .before .before .before .before .before .before .before .before .before .before .before .before .before .args .s .now) (c .before .before .before .before .before .before .before .before .before .before .before .before .before .before .before .before .before .loop .i) ((c .before .before .before .before .before .before .before .before .before .before .before .before .before .before .before .before .find .result) .end) ((c .before .before .before .before .before .before .before .before .before .before .before .before .before .before .before .before .find .result) .step) (c .before .before .before .before .before .before .before .before .before .before .before .before .before .before .if1 .left) ((c .before .before .before .before .before .before .before .before .before .before .before .before .before .before .before .before .find .ensures .0 .1)) ((c .before .before .before .before .before .before .before .before .before .before .before .before .before .before .before .before .find .ensures .1 .1) (c .before .before .before .before .before .before .before .before .before .before .before .before .before .before .if1 .left)) (c .before .before .before .before .before .before .before .before .before .before .before .before .before .before .before .before .before .before .before .before .args .at) (c .before .before .before .before .before .before .before .before .before .before .before .before .before .before .before .before .before .before .before .before .args .row) (c .before .before .before .before .before .before .before .before .before .before .before .before .before .before .before .before .before .before .before .before .args .t5) (c .before .before .before .before .before .before .before .before .before .before .before .before .before .before .before .before .before .before .before .before .args .out .now) (c .before .before .before .before .before .before .before .before .before .before .before .before .before .before .before .before .before .loop .out) (c .before .before .before .before .before .before .before .before .before .before .before .before .before .before .before .before .before .loop .o) (c .before .before .before .before .before .before .before .before .before .before .before .before .before .before .before .before .before .loop .n) (c .before .before .before .before .before .before .before .before .before .before .before .before .before .before .before .before .before .loop .run) (c .before .before .before .before .before .before .before .before .before .before .before .before .before .before .before .before .before .loop .inv) _ _ _ (sym (turn (c .before .before .before .before .before .before .before .before .before .before .before .before .before .before .before .before .before .loop .run) ((c .before .before .before .before .before .before .before .before .before .before .before .before .before .before .before .before .find .result) .step) ((c .before .before .before .before .before .before .before .before .before .before .before .before .before .before .before .before .before .loop .inv .sound)) (c .before .before .before .before .before .before .before .before .before .before .before .before .admit .result) _ (c .before .before .before .before .before .before .before .before .before .before .before .before .admit .ensures) (c .before .before .before .before .before .before .before .before .before .before .c .given .1) _ (decide-begins (c .before .before .before .before .before .before .before .before .before .before .before .before .before .before .before .before .before .loop .run) _ _ ∙ (c .before .before .before .before .before .before .before .opens .ensures) ((c .before .before .before .before .before .before .before .before .before .before .c .given .0 .0)) ∙ ap (movedAs Begun ((c .before .before .before .before .before .before .before .before .before .before .c .given .0 .0))) (c .before .before .before .before .before .next .given .1)))) ((c .before .before .accept .ensures .0)) ((c .before .before .accept .ensures .1))
+loop-again-3 c =
+    let h = c .before .before .before .before .before .before .before .before .before .before .before .before in
+    next h _ _ _
+    (admitted h _ (c .before .before .before .before .before .before .before .before .before .before .c .given .1) _
+    (decide-begins (held h) _ _
+    ∙ (c .before .before .before .before .before .before .before .opens .ensures) (c .before .before .before .before .before .before .before .before .before .before .c .given .0 .0)
+    ∙ ap (movedAs Begun (c .before .before .before .before .before .before .before .before .before .before .c .given .0 .0)) (c .before .before .before .before .before .next .given .1)))
+    (c .before .before .accept .ensures .0)
+    (c .before .before .accept .ensures .1)
 
 enum-known-c-2 : tie.Need-enum-known-c-2 Inv-loop2 μ-loop2 Inv-loop μ-loop
 enum-known-c-2 c = search needs
@@ -131,7 +222,9 @@ mul-client-2 : tie.Need-mul-client-2 Inv-loop2 μ-loop2 Inv-loop μ-loop
 mul-client-2 c = search needs
 
 element-copy-out-client-2 : tie.Need-element-copy-out-client-2 Inv-loop2 μ-loop2 Inv-loop μ-loop
-element-copy-out-client-2 c = leaves-place (c .before .before .before .before .before .before .before .before .loop .run) ((c .before .before .before .before .before .before .before .find .result) .step) ((c .before .before .before .before .before .before .before .before .loop .inv .sound)) _ (sym (c .before .c2 .given .1) ∙ (c .before .before .before .admit .ensures))
+element-copy-out-client-2 c =
+    let h = c .before .before .before in
+    leaves-place (held h) (asks h) (sound h) _ (sym (c .before .c2 .given .1) ∙ h .admit .ensures)
 
 quits-requires : tie.Need-quits-requires Inv-loop2 μ-loop2 Inv-loop μ-loop
 quits-requires c κs = search needs
@@ -140,14 +233,22 @@ enum-known-why-3 : tie.Need-enum-known-why-3 Inv-loop2 μ-loop2 Inv-loop μ-loop
 enum-known-why-3 c = search needs
 
 refuse-requires-3 : tie.Need-refuse-requires-3 Inv-loop2 μ-loop2 Inv-loop μ-loop
-refuse-requires-3 c κs = taking-room (c .before .before .before .before .before .before .before .before .before .before .before .before .before .before .before .before .before .args .s .now) (c .before .before .before .before .before .before .before .before .before .before .before .before .before .before .loop .i) ((c .before .before .before .before .before .before .before .before .before .before .before .before .before .find .result) .end) ((c .before .before .before .before .before .before .before .before .before .before .before .before .before .find .result) .step) (c .before .before .before .before .before .before .before .before .before .before .before .if1 .left) ((c .before .before .before .before .before .before .before .before .before .before .before .before .before .find .ensures .0 .1)) ((c .before .before .before .before .before .before .before .before .before .before .before .before .before .find .ensures .1 .1) (c .before .before .before .before .before .before .before .before .before .before .before .if1 .left)) (c .before .before .before .before .before .before .before .before .before .before .before .before .before .before .before .before .before .args .at) (c .before .before .before .before .before .before .before .before .before .before .before .before .before .before .before .before .before .args .row) (c .before .before .before .before .before .before .before .before .before .before .before .before .before .before .before .before .before .args .t5) (c .before .before .before .before .before .before .before .before .before .before .before .before .before .before .before .before .before .args .out .now) (c .before .before .before .before .before .before .before .before .before .before .before .before .before .before .loop .out) (c .before .before .before .before .before .before .before .before .before .before .before .before .before .before .loop .o) (c .before .before .before .before .before .before .before .before .before .before .before .before .before .before .loop .n) (c .before .before .before .before .before .before .before .before .before .before .before .before .before .before .loop .run) (c .before .before .before .before .before .before .before .before .before .before .before .before .before .before .loop .inv)
+refuse-requires-3 c κs = room (c .before .before .before .before .before .before .before .before .before)
 
 loop-less-4 : tie.Need-loop-less-4 Inv-loop2 μ-loop2 Inv-loop μ-loop
-loop-less-4 c = omega (arith, (c .before .before .before .before .before .before .before .before .before .before .before .before .before .before .if1 .left), (c .before .before .before .before .before .before .before .before .before .before .before .before .before .before .before .before .find .ensures .0 .1))
+loop-less-4 c = shorter (c .before .before .before .before .before .before .before .before .before .before .before .before)
 
 loop-again-4 : tie.Need-loop-again-4 Inv-loop2 μ-loop2 Inv-loop μ-loop
 unfolding changed
-loop-again-4 c = taking-next (c .before .before .before .before .before .before .before .before .before .before .before .before .before .before .before .before .before .before .before .before .args .s .now) (c .before .before .before .before .before .before .before .before .before .before .before .before .before .before .before .before .before .loop .i) ((c .before .before .before .before .before .before .before .before .before .before .before .before .before .before .before .before .find .result) .end) ((c .before .before .before .before .before .before .before .before .before .before .before .before .before .before .before .before .find .result) .step) (c .before .before .before .before .before .before .before .before .before .before .before .before .before .before .if1 .left) ((c .before .before .before .before .before .before .before .before .before .before .before .before .before .before .before .before .find .ensures .0 .1)) ((c .before .before .before .before .before .before .before .before .before .before .before .before .before .before .before .before .find .ensures .1 .1) (c .before .before .before .before .before .before .before .before .before .before .before .before .before .before .if1 .left)) (c .before .before .before .before .before .before .before .before .before .before .before .before .before .before .before .before .before .before .before .before .args .at) (c .before .before .before .before .before .before .before .before .before .before .before .before .before .before .before .before .before .before .before .before .args .row) (c .before .before .before .before .before .before .before .before .before .before .before .before .before .before .before .before .before .before .before .before .args .t5) (c .before .before .before .before .before .before .before .before .before .before .before .before .before .before .before .before .before .before .before .before .args .out .now) (c .before .before .before .before .before .before .before .before .before .before .before .before .before .before .before .before .before .loop .out) (c .before .before .before .before .before .before .before .before .before .before .before .before .before .before .before .before .before .loop .o) (c .before .before .before .before .before .before .before .before .before .before .before .before .before .before .before .before .before .loop .n) (c .before .before .before .before .before .before .before .before .before .before .before .before .before .before .before .before .before .loop .run) (c .before .before .before .before .before .before .before .before .before .before .before .before .before .before .before .before .before .loop .inv) _ _ _ (sym (turn (c .before .before .before .before .before .before .before .before .before .before .before .before .before .before .before .before .before .loop .run) ((c .before .before .before .before .before .before .before .before .before .before .before .before .before .before .before .before .find .result) .step) ((c .before .before .before .before .before .before .before .before .before .before .before .before .before .before .before .before .before .loop .inv .sound)) (c .before .before .before .before .before .before .before .before .before .before .before .before .admit .result) _ (c .before .before .before .before .before .before .before .before .before .before .before .before .admit .ensures) (c .before .before .before .before .before .before .before .before .before .before .c2 .given .1) _ (decide-leaves (c .before .before .before .before .before .before .before .before .before .before .before .before .before .before .before .before .before .loop .run) _ ∙ (c .before .before .before .before .before .before .before .quits .ensures) ((c .before .before .before .before .before .before .before .before .before .before .c2 .given .0 .0)) ∙ ap (movedAs Left ((c .before .before .before .before .before .before .before .before .before .before .c2 .given .0 .0))) (c .before .before .before .before .before .why3 .given .1)))) ((c .before .before .refuse3 .ensures .0)) ((c .before .before .refuse3 .ensures .1))
+loop-again-4 c =
+    let h = c .before .before .before .before .before .before .before .before .before .before .before .before in
+    next h _ _ _
+    (admitted h _ (c .before .before .before .before .before .before .before .before .before .before .c2 .given .1) _
+    (decide-leaves (held h) _
+    ∙ (c .before .before .before .before .before .before .before .quits .ensures) (c .before .before .before .before .before .before .before .before .before .before .c2 .given .0 .0)
+    ∙ ap (movedAs Left (c .before .before .before .before .before .before .before .before .before .before .c2 .given .0 .0)) (c .before .before .before .before .before .why3 .given .1)))
+    (c .before .before .refuse3 .ensures .0)
+    (c .before .before .refuse3 .ensures .1)
 
 enum-known-next-2 : tie.Need-enum-known-next-2 Inv-loop2 μ-loop2 Inv-loop μ-loop
 enum-known-next-2 c = search needs
@@ -159,20 +260,30 @@ mul-next-2 : tie.Need-mul-next-2 Inv-loop2 μ-loop2 Inv-loop μ-loop
 mul-next-2 c = search needs
 
 element-set-from-next-2 : tie.Need-element-set-from-next-2 Inv-loop2 μ-loop2 Inv-loop μ-loop
-element-set-from-next-2 c = leaves-place (c .before .before .before .before .before .before .before .before .before .before .before .before .before .loop .run) ((c .before .before .before .before .before .before .before .before .before .before .before .before .find .result) .step) ((c .before .before .before .before .before .before .before .before .before .before .before .before .before .loop .inv .sound)) _ (sym (c .before .before .before .before .before .before .c2 .given .1) ∙ (c .before .before .before .before .before .before .before .before .admit .ensures))
+element-set-from-next-2 c =
+    let h = c .before .before .before .before .before .before .before .before in
+    leaves-place (held h) (asks h) (sound h) _ (sym (c .before .before .before .before .before .before .c2 .given .1) ∙ h .admit .ensures)
 
 add-run-2 : tie.Need-add-run-2 Inv-loop2 μ-loop2 Inv-loop μ-loop
-add-run-2 c = omega (arith, steps-most (c .before .before .before .before .before .before .before .before .before .before .before .before .before .loop .run) ((c .before .before .before .before .before .before .before .before .before .before .before .before .before .loop .inv .sound)))
+add-run-2 c = let h = c .before .before .before .before .before .before .before .before in omega (arith, steps-most (held h) (sound h))
 
 accept-requires-2 : tie.Need-accept-requires-2 Inv-loop2 μ-loop2 Inv-loop μ-loop
-accept-requires-2 c κs = taking-room (c .before .before .before .before .before .before .before .before .before .before .before .before .before .before .before .before .before .args .s .now) (c .before .before .before .before .before .before .before .before .before .before .before .before .before .before .loop .i) ((c .before .before .before .before .before .before .before .before .before .before .before .before .before .find .result) .end) ((c .before .before .before .before .before .before .before .before .before .before .before .before .before .find .result) .step) (c .before .before .before .before .before .before .before .before .before .before .before .if1 .left) ((c .before .before .before .before .before .before .before .before .before .before .before .before .before .find .ensures .0 .1)) ((c .before .before .before .before .before .before .before .before .before .before .before .before .before .find .ensures .1 .1) (c .before .before .before .before .before .before .before .before .before .before .before .if1 .left)) (c .before .before .before .before .before .before .before .before .before .before .before .before .before .before .before .before .before .args .at) (c .before .before .before .before .before .before .before .before .before .before .before .before .before .before .before .before .before .args .row) (c .before .before .before .before .before .before .before .before .before .before .before .before .before .before .before .before .before .args .t5) (c .before .before .before .before .before .before .before .before .before .before .before .before .before .before .before .before .before .args .out .now) (c .before .before .before .before .before .before .before .before .before .before .before .before .before .before .loop .out) (c .before .before .before .before .before .before .before .before .before .before .before .before .before .before .loop .o) (c .before .before .before .before .before .before .before .before .before .before .before .before .before .before .loop .n) (c .before .before .before .before .before .before .before .before .before .before .before .before .before .before .loop .run) (c .before .before .before .before .before .before .before .before .before .before .before .before .before .before .loop .inv)
+accept-requires-2 c κs = room (c .before .before .before .before .before .before .before .before .before)
 
 loop-less-5 : tie.Need-loop-less-5 Inv-loop2 μ-loop2 Inv-loop μ-loop
-loop-less-5 c = omega (arith, (c .before .before .before .before .before .before .before .before .before .before .before .before .before .before .if1 .left), (c .before .before .before .before .before .before .before .before .before .before .before .before .before .before .before .before .find .ensures .0 .1))
+loop-less-5 c = shorter (c .before .before .before .before .before .before .before .before .before .before .before .before)
 
 loop-again-5 : tie.Need-loop-again-5 Inv-loop2 μ-loop2 Inv-loop μ-loop
 unfolding changed
-loop-again-5 c = taking-next (c .before .before .before .before .before .before .before .before .before .before .before .before .before .before .before .before .before .before .before .before .args .s .now) (c .before .before .before .before .before .before .before .before .before .before .before .before .before .before .before .before .before .loop .i) ((c .before .before .before .before .before .before .before .before .before .before .before .before .before .before .before .before .find .result) .end) ((c .before .before .before .before .before .before .before .before .before .before .before .before .before .before .before .before .find .result) .step) (c .before .before .before .before .before .before .before .before .before .before .before .before .before .before .if1 .left) ((c .before .before .before .before .before .before .before .before .before .before .before .before .before .before .before .before .find .ensures .0 .1)) ((c .before .before .before .before .before .before .before .before .before .before .before .before .before .before .before .before .find .ensures .1 .1) (c .before .before .before .before .before .before .before .before .before .before .before .before .before .before .if1 .left)) (c .before .before .before .before .before .before .before .before .before .before .before .before .before .before .before .before .before .before .before .before .args .at) (c .before .before .before .before .before .before .before .before .before .before .before .before .before .before .before .before .before .before .before .before .args .row) (c .before .before .before .before .before .before .before .before .before .before .before .before .before .before .before .before .before .before .before .before .args .t5) (c .before .before .before .before .before .before .before .before .before .before .before .before .before .before .before .before .before .before .before .before .args .out .now) (c .before .before .before .before .before .before .before .before .before .before .before .before .before .before .before .before .before .loop .out) (c .before .before .before .before .before .before .before .before .before .before .before .before .before .before .before .before .before .loop .o) (c .before .before .before .before .before .before .before .before .before .before .before .before .before .before .before .before .before .loop .n) (c .before .before .before .before .before .before .before .before .before .before .before .before .before .before .before .before .before .loop .run) (c .before .before .before .before .before .before .before .before .before .before .before .before .before .before .before .before .before .loop .inv) _ _ _ (sym (turn (c .before .before .before .before .before .before .before .before .before .before .before .before .before .before .before .before .before .loop .run) ((c .before .before .before .before .before .before .before .before .before .before .before .before .before .before .before .before .find .result) .step) ((c .before .before .before .before .before .before .before .before .before .before .before .before .before .before .before .before .before .loop .inv .sound)) (c .before .before .before .before .before .before .before .before .before .before .before .before .admit .result) _ (c .before .before .before .before .before .before .before .before .before .before .before .before .admit .ensures) (c .before .before .before .before .before .before .before .before .before .before .c2 .given .1) _ (decide-leaves (c .before .before .before .before .before .before .before .before .before .before .before .before .before .before .before .before .before .loop .run) _ ∙ (c .before .before .before .before .before .before .before .quits .ensures) ((c .before .before .before .before .before .before .before .before .before .before .c2 .given .0 .0)) ∙ ap (movedAs Left ((c .before .before .before .before .before .before .before .before .before .before .c2 .given .0 .0))) (c .before .before .before .before .before .next2 .given .1)))) ((c .before .before .accept2 .ensures .0)) ((c .before .before .accept2 .ensures .1))
+loop-again-5 c =
+    let h = c .before .before .before .before .before .before .before .before .before .before .before .before in
+    next h _ _ _
+    (admitted h _ (c .before .before .before .before .before .before .before .before .before .before .c2 .given .1) _
+    (decide-leaves (held h) _
+    ∙ (c .before .before .before .before .before .before .before .quits .ensures) (c .before .before .before .before .before .before .before .before .before .before .c2 .given .0 .0)
+    ∙ ap (movedAs Left (c .before .before .before .before .before .before .before .before .before .before .c2 .given .0 .0)) (c .before .before .before .before .before .next2 .given .1)))
+    (c .before .before .accept2 .ensures .0)
+    (c .before .before .accept2 .ensures .1)
 
 enum-known-c-3 : tie.Need-enum-known-c-3 Inv-loop2 μ-loop2 Inv-loop μ-loop
 enum-known-c-3 c = search needs
@@ -184,7 +295,9 @@ mul-client-3 : tie.Need-mul-client-3 Inv-loop2 μ-loop2 Inv-loop μ-loop
 mul-client-3 c = search needs
 
 element-copy-out-client-3 : tie.Need-element-copy-out-client-3 Inv-loop2 μ-loop2 Inv-loop μ-loop
-element-copy-out-client-3 c = sends-places (c .before .before .before .before .before .before .before .before .loop .run) ((c .before .before .before .before .before .before .before .find .result) .step) ((c .before .before .before .before .before .before .before .before .loop .inv .sound)) _ _ (sym (c .before .c3 .given .1) ∙ (c .before .before .before .admit .ensures)) .0
+element-copy-out-client-3 c =
+    let h = c .before .before .before in
+    sends-places (held h) (asks h) (sound h) _ _ (sym (c .before .c3 .given .1) ∙ h .admit .ensures) .0
 
 asks-requires : tie.Need-asks-requires Inv-loop2 μ-loop2 Inv-loop μ-loop
 asks-requires c κs = search needs
@@ -193,14 +306,22 @@ enum-known-why-4 : tie.Need-enum-known-why-4 Inv-loop2 μ-loop2 Inv-loop μ-loop
 enum-known-why-4 c = search needs
 
 refuse-requires-4 : tie.Need-refuse-requires-4 Inv-loop2 μ-loop2 Inv-loop μ-loop
-refuse-requires-4 c κs = taking-room (c .before .before .before .before .before .before .before .before .before .before .before .before .before .before .before .before .before .args .s .now) (c .before .before .before .before .before .before .before .before .before .before .before .before .before .before .loop .i) ((c .before .before .before .before .before .before .before .before .before .before .before .before .before .find .result) .end) ((c .before .before .before .before .before .before .before .before .before .before .before .before .before .find .result) .step) (c .before .before .before .before .before .before .before .before .before .before .before .if1 .left) ((c .before .before .before .before .before .before .before .before .before .before .before .before .before .find .ensures .0 .1)) ((c .before .before .before .before .before .before .before .before .before .before .before .before .before .find .ensures .1 .1) (c .before .before .before .before .before .before .before .before .before .before .before .if1 .left)) (c .before .before .before .before .before .before .before .before .before .before .before .before .before .before .before .before .before .args .at) (c .before .before .before .before .before .before .before .before .before .before .before .before .before .before .before .before .before .args .row) (c .before .before .before .before .before .before .before .before .before .before .before .before .before .before .before .before .before .args .t5) (c .before .before .before .before .before .before .before .before .before .before .before .before .before .before .before .before .before .args .out .now) (c .before .before .before .before .before .before .before .before .before .before .before .before .before .before .loop .out) (c .before .before .before .before .before .before .before .before .before .before .before .before .before .before .loop .o) (c .before .before .before .before .before .before .before .before .before .before .before .before .before .before .loop .n) (c .before .before .before .before .before .before .before .before .before .before .before .before .before .before .loop .run) (c .before .before .before .before .before .before .before .before .before .before .before .before .before .before .loop .inv)
+refuse-requires-4 c κs = room (c .before .before .before .before .before .before .before .before .before)
 
 loop-less-6 : tie.Need-loop-less-6 Inv-loop2 μ-loop2 Inv-loop μ-loop
-loop-less-6 c = omega (arith, (c .before .before .before .before .before .before .before .before .before .before .before .before .before .before .if1 .left), (c .before .before .before .before .before .before .before .before .before .before .before .before .before .before .before .before .find .ensures .0 .1))
+loop-less-6 c = shorter (c .before .before .before .before .before .before .before .before .before .before .before .before)
 
 loop-again-6 : tie.Need-loop-again-6 Inv-loop2 μ-loop2 Inv-loop μ-loop
 unfolding changed
-loop-again-6 c = taking-next (c .before .before .before .before .before .before .before .before .before .before .before .before .before .before .before .before .before .before .before .before .args .s .now) (c .before .before .before .before .before .before .before .before .before .before .before .before .before .before .before .before .before .loop .i) ((c .before .before .before .before .before .before .before .before .before .before .before .before .before .before .before .before .find .result) .end) ((c .before .before .before .before .before .before .before .before .before .before .before .before .before .before .before .before .find .result) .step) (c .before .before .before .before .before .before .before .before .before .before .before .before .before .before .if1 .left) ((c .before .before .before .before .before .before .before .before .before .before .before .before .before .before .before .before .find .ensures .0 .1)) ((c .before .before .before .before .before .before .before .before .before .before .before .before .before .before .before .before .find .ensures .1 .1) (c .before .before .before .before .before .before .before .before .before .before .before .before .before .before .if1 .left)) (c .before .before .before .before .before .before .before .before .before .before .before .before .before .before .before .before .before .before .before .before .args .at) (c .before .before .before .before .before .before .before .before .before .before .before .before .before .before .before .before .before .before .before .before .args .row) (c .before .before .before .before .before .before .before .before .before .before .before .before .before .before .before .before .before .before .before .before .args .t5) (c .before .before .before .before .before .before .before .before .before .before .before .before .before .before .before .before .before .before .before .before .args .out .now) (c .before .before .before .before .before .before .before .before .before .before .before .before .before .before .before .before .before .loop .out) (c .before .before .before .before .before .before .before .before .before .before .before .before .before .before .before .before .before .loop .o) (c .before .before .before .before .before .before .before .before .before .before .before .before .before .before .before .before .before .loop .n) (c .before .before .before .before .before .before .before .before .before .before .before .before .before .before .before .before .before .loop .run) (c .before .before .before .before .before .before .before .before .before .before .before .before .before .before .before .before .before .loop .inv) _ _ _ (sym (turn (c .before .before .before .before .before .before .before .before .before .before .before .before .before .before .before .before .before .loop .run) ((c .before .before .before .before .before .before .before .before .before .before .before .before .before .before .before .before .find .result) .step) ((c .before .before .before .before .before .before .before .before .before .before .before .before .before .before .before .before .before .loop .inv .sound)) (c .before .before .before .before .before .before .before .before .before .before .before .before .admit .result) _ (c .before .before .before .before .before .before .before .before .before .before .before .before .admit .ensures) (c .before .before .before .before .before .before .before .before .before .before .c3 .given .1) _ (decide-sends (c .before .before .before .before .before .before .before .before .before .before .before .before .before .before .before .before .before .loop .run) _ _ ∙ (c .before .before .before .before .before .before .before .asks .ensures) (firstFrom 0 ((c .before .before .before .before .before .before .before .before .before .before .before .before .before .before .before .before .before .loop .run) .slots)) ∙ ap (askingAs (firstFrom 0 ((c .before .before .before .before .before .before .before .before .before .before .before .before .before .before .before .before .before .loop .run) .slots))) (c .before .before .before .before .before .why4 .given .1)))) ((c .before .before .refuse4 .ensures .0)) ((c .before .before .refuse4 .ensures .1))
+loop-again-6 c =
+    let h = c .before .before .before .before .before .before .before .before .before .before .before .before in
+    next h _ _ _
+    (admitted h _ (c .before .before .before .before .before .before .before .before .before .before .c3 .given .1) _
+    (decide-sends (held h) _ _
+    ∙ (c .before .before .before .before .before .before .before .asks .ensures) (firstFrom 0 ((held h) .slots))
+    ∙ ap (askingAs (firstFrom 0 ((held h) .slots))) (c .before .before .before .before .before .why4 .given .1)))
+    (c .before .before .refuse4 .ensures .0)
+    (c .before .before .refuse4 .ensures .1)
 
 enum-known-request : tie.Need-enum-known-request Inv-loop2 μ-loop2 Inv-loop μ-loop
 enum-known-request c = search needs
@@ -227,7 +348,9 @@ loop2-less : tie.Need-loop2-less Inv-loop2 μ-loop2 Inv-loop μ-loop
 loop2-less c = omega (arith, (c .before .before .before .loop2-test .taken))
 
 loop2-again : tie.Need-loop2-again Inv-loop2 μ-loop2 Inv-loop μ-loop
-loop2-again c = (omega (arith, (c .before .before .before .loop2-test .taken)), (c .before .before .before .before .loop2 .inv .1) ∙ first-next ((c .before .before .before .before .before .before .before .before .before .before .before .before .before .before .before .before .before .before .loop .run) .slots) (c .before .before .before .before .loop2 .j) (c .before .before .before .before .loop2 .j) (sym (c .before .is-empty .ensures) ∙ (c .if2 .left)))
+loop2-again c =
+    let h = c .before .before .before .before .before .before .before .before .before .before .before .before .before in
+    (omega (arith, (c .before .before .before .loop2-test .taken)), (c .before .before .before .before .loop2 .inv .1) ∙ first-next ((held h) .slots) (c .before .before .before .before .loop2 .j) (c .before .before .before .before .loop2 .j) (sym (c .before .is-empty .ensures) ∙ (c .if2 .left)))
 
 cast-request : tie.Need-cast-request Inv-loop2 μ-loop2 Inv-loop μ-loop
 cast-request c = search needs
@@ -239,30 +362,52 @@ element-set-from-request : tie.Need-element-set-from-request Inv-loop2 μ-loop2 
 element-set-from-request c = (c .if3 .taken)
 
 add-run-3 : tie.Need-add-run-3 Inv-loop2 μ-loop2 Inv-loop μ-loop
-add-run-3 c = omega (arith, steps-most (c .before .before .before .before .before .before .before .before .before .before .before .before .before .before .before .before .loop .run) ((c .before .before .before .before .before .before .before .before .before .before .before .before .before .before .before .before .loop .inv .sound)))
+add-run-3 c =
+    let h = c .before .before .before .before .before .before .before .before .before .before .before in
+    omega (arith, steps-most (held h) (sound h))
 
 add-put-sent : tie.Need-add-put-sent Inv-loop2 μ-loop2 Inv-loop μ-loop
 add-put-sent c = omega (arith, (c .before .if3 .taken))
 
 put-sent-requires : tie.Need-put-sent-requires Inv-loop2 μ-loop2 Inv-loop μ-loop
-put-sent-requires c κs = taking-room (c .before .before .before .before .before .before .before .before .before .before .before .before .before .before .before .before .before .before .before .before .args .s .now) (c .before .before .before .before .before .before .before .before .before .before .before .before .before .before .before .before .before .loop .i) ((c .before .before .before .before .before .before .before .before .before .before .before .before .before .before .before .before .find .result) .end) ((c .before .before .before .before .before .before .before .before .before .before .before .before .before .before .before .before .find .result) .step) (c .before .before .before .before .before .before .before .before .before .before .before .before .before .before .if1 .left) ((c .before .before .before .before .before .before .before .before .before .before .before .before .before .before .before .before .find .ensures .0 .1)) ((c .before .before .before .before .before .before .before .before .before .before .before .before .before .before .before .before .find .ensures .1 .1) (c .before .before .before .before .before .before .before .before .before .before .before .before .before .before .if1 .left)) (c .before .before .before .before .before .before .before .before .before .before .before .before .before .before .before .before .before .before .before .before .args .at) (c .before .before .before .before .before .before .before .before .before .before .before .before .before .before .before .before .before .before .before .before .args .row) (c .before .before .before .before .before .before .before .before .before .before .before .before .before .before .before .before .before .before .before .before .args .t5) (c .before .before .before .before .before .before .before .before .before .before .before .before .before .before .before .before .before .before .before .before .args .out .now) (c .before .before .before .before .before .before .before .before .before .before .before .before .before .before .before .before .before .loop .out) (c .before .before .before .before .before .before .before .before .before .before .before .before .before .before .before .before .before .loop .o) (c .before .before .before .before .before .before .before .before .before .before .before .before .before .before .before .before .before .loop .n) (c .before .before .before .before .before .before .before .before .before .before .before .before .before .before .before .before .before .loop .run) (c .before .before .before .before .before .before .before .before .before .before .before .before .before .before .before .before .before .loop .inv)
+put-sent-requires c κs = room (c .before .before .before .before .before .before .before .before .before .before .before .before)
 
 loop-less-7 : tie.Need-loop-less-7 Inv-loop2 μ-loop2 Inv-loop μ-loop
-loop-less-7 c = omega (arith, (c .before .before .before .before .before .before .before .before .before .before .before .before .before .before .before .before .before .if1 .left), (c .before .before .before .before .before .before .before .before .before .before .before .before .before .before .before .before .before .before .before .find .ensures .0 .1))
+loop-less-7 c = shorter (c .before .before .before .before .before .before .before .before .before .before .before .before .before .before .before)
 
 loop-again-7 : tie.Need-loop-again-7 Inv-loop2 μ-loop2 Inv-loop μ-loop
 unfolding changed
-loop-again-7 c = let here : firstFrom (c .before .before .before .before .before .before .loop2 .j) (drop (c .before .before .before .before .before .before .loop2 .j) ((c .before .before .before .before .before .before .before .before .before .before .before .before .before .before .before .before .before .before .before .before .loop .run) .slots)) ≡ (c .before .before .before .before .before .before .loop2 .j) = ⊎-elim (λ w. absurd (omega (arith, w .left, (c .before .before .before .before .if3 .taken)))) (λ w. first-here ((c .before .before .before .before .before .before .before .before .before .before .before .before .before .before .before .before .before .before .before .before .loop .run) .slots) (c .before .before .before .before .before .before .loop2 .j) (c .before .before .before .before .before .before .loop2 .j) (sym (w .2 .ensures) ∙ w .3 .taken)) (c .before .before .before .before .before .loop2-test .came) in taking-next (c .before .before .before .before .before .before .before .before .before .before .before .before .before .before .before .before .before .before .before .before .before .before .before .args .s .now) (c .before .before .before .before .before .before .before .before .before .before .before .before .before .before .before .before .before .before .before .before .loop .i) ((c .before .before .before .before .before .before .before .before .before .before .before .before .before .before .before .before .before .before .before .find .result) .end) ((c .before .before .before .before .before .before .before .before .before .before .before .before .before .before .before .before .before .before .before .find .result) .step) (c .before .before .before .before .before .before .before .before .before .before .before .before .before .before .before .before .before .if1 .left) ((c .before .before .before .before .before .before .before .before .before .before .before .before .before .before .before .before .before .before .before .find .ensures .0 .1)) ((c .before .before .before .before .before .before .before .before .before .before .before .before .before .before .before .before .before .before .before .find .ensures .1 .1) (c .before .before .before .before .before .before .before .before .before .before .before .before .before .before .before .before .before .if1 .left)) (c .before .before .before .before .before .before .before .before .before .before .before .before .before .before .before .before .before .before .before .before .before .before .before .args .at) (c .before .before .before .before .before .before .before .before .before .before .before .before .before .before .before .before .before .before .before .before .before .before .before .args .row) (c .before .before .before .before .before .before .before .before .before .before .before .before .before .before .before .before .before .before .before .before .before .before .before .args .t5) (c .before .before .before .before .before .before .before .before .before .before .before .before .before .before .before .before .before .before .before .before .before .before .before .args .out .now) (c .before .before .before .before .before .before .before .before .before .before .before .before .before .before .before .before .before .before .before .before .loop .out) (c .before .before .before .before .before .before .before .before .before .before .before .before .before .before .before .before .before .before .before .before .loop .o) (c .before .before .before .before .before .before .before .before .before .before .before .before .before .before .before .before .before .before .before .before .loop .n) (c .before .before .before .before .before .before .before .before .before .before .before .before .before .before .before .before .before .before .before .before .loop .run) (c .before .before .before .before .before .before .before .before .before .before .before .before .before .before .before .before .before .before .before .before .loop .inv) _ _ _ (sym (turn (c .before .before .before .before .before .before .before .before .before .before .before .before .before .before .before .before .before .before .before .before .loop .run) ((c .before .before .before .before .before .before .before .before .before .before .before .before .before .before .before .before .before .before .before .find .result) .step) ((c .before .before .before .before .before .before .before .before .before .before .before .before .before .before .before .before .before .before .before .before .loop .inv .sound)) (c .before .before .before .before .before .before .before .before .before .before .before .before .before .before .before .admit .result) _ (c .before .before .before .before .before .before .before .before .before .before .before .before .before .before .before .admit .ensures) (c .before .before .before .before .before .before .before .before .before .before .before .before .before .c3 .given .1) _ (decide-sends (c .before .before .before .before .before .before .before .before .before .before .before .before .before .before .before .before .before .before .before .before .loop .run) _ _ ∙ (c .before .before .before .before .before .before .before .before .before .before .asks .ensures) (firstFrom 0 ((c .before .before .before .before .before .before .before .before .before .before .before .before .before .before .before .before .before .before .before .before .loop .run) .slots)) ∙ ap (askingAs (firstFrom 0 ((c .before .before .before .before .before .before .before .before .before .before .before .before .before .before .before .before .before .before .before .before .loop .run) .slots))) (c .before .before .before .before .before .before .before .before .request .given .1) ∙ sent-in (firstFrom 0 ((c .before .before .before .before .before .before .before .before .before .before .before .before .before .before .before .before .before .before .before .before .loop .run) .slots)) (c .before .before .before .before .before .before .loop2 .j) _ ((c .before .before .before .before .before .before .loop2 .inv .1) ∙ here) (c .before .before .before .before .if3 .taken)))) ((c .before .before .put-sent .ensures .0)) ((c .before .before .put-sent .ensures .1))
+loop-again-7 c =
+    let h = c .before .before .before .before .before .before .before .before .before .before .before .before .before .before .before in
+    let here : firstFrom (c .before .before .before .before .before .before .loop2 .j) (drop (c .before .before .before .before .before .before .loop2 .j) ((held h) .slots)) ≡ (c .before .before .before .before .before .before .loop2 .j) = ⊎-elim (λ w. absurd (omega (arith, w .left, (c .before .before .before .before .if3 .taken)))) (λ w. first-here ((held h) .slots) (c .before .before .before .before .before .before .loop2 .j) (c .before .before .before .before .before .before .loop2 .j) (sym (w .2 .ensures) ∙ w .3 .taken)) (c .before .before .before .before .before .loop2-test .came) in
+    next h _ _ _
+    (admitted h _ (c .before .before .before .before .before .before .before .before .before .before .before .before .before .c3 .given .1) _
+    (decide-sends (held h) _ _
+    ∙ (c .before .before .before .before .before .before .before .before .before .before .asks .ensures) (firstFrom 0 ((held h) .slots))
+    ∙ ap (askingAs (firstFrom 0 ((held h) .slots))) (c .before .before .before .before .before .before .before .before .request .given .1)
+    ∙ sent-in (firstFrom 0 ((held h) .slots)) (c .before .before .before .before .before .before .loop2 .j) _ ((c .before .before .before .before .before .before .loop2 .inv .1) ∙ here) (c .before .before .before .before .if3 .taken)))
+    (c .before .before .put-sent .ensures .0)
+    (c .before .before .put-sent .ensures .1)
 
 refuse-requires-5 : tie.Need-refuse-requires-5 Inv-loop2 μ-loop2 Inv-loop μ-loop
-refuse-requires-5 c κs = taking-room (c .before .before .before .before .before .before .before .before .before .before .before .before .before .before .before .before .before .before .before .before .args .s .now) (c .before .before .before .before .before .before .before .before .before .before .before .before .before .before .before .before .before .loop .i) ((c .before .before .before .before .before .before .before .before .before .before .before .before .before .before .before .before .find .result) .end) ((c .before .before .before .before .before .before .before .before .before .before .before .before .before .before .before .before .find .result) .step) (c .before .before .before .before .before .before .before .before .before .before .before .before .before .before .if1 .left) ((c .before .before .before .before .before .before .before .before .before .before .before .before .before .before .before .before .find .ensures .0 .1)) ((c .before .before .before .before .before .before .before .before .before .before .before .before .before .before .before .before .find .ensures .1 .1) (c .before .before .before .before .before .before .before .before .before .before .before .before .before .before .if1 .left)) (c .before .before .before .before .before .before .before .before .before .before .before .before .before .before .before .before .before .before .before .before .args .at) (c .before .before .before .before .before .before .before .before .before .before .before .before .before .before .before .before .before .before .before .before .args .row) (c .before .before .before .before .before .before .before .before .before .before .before .before .before .before .before .before .before .before .before .before .args .t5) (c .before .before .before .before .before .before .before .before .before .before .before .before .before .before .before .before .before .before .before .before .args .out .now) (c .before .before .before .before .before .before .before .before .before .before .before .before .before .before .before .before .before .loop .out) (c .before .before .before .before .before .before .before .before .before .before .before .before .before .before .before .before .before .loop .o) (c .before .before .before .before .before .before .before .before .before .before .before .before .before .before .before .before .before .loop .n) (c .before .before .before .before .before .before .before .before .before .before .before .before .before .before .before .before .before .loop .run) (c .before .before .before .before .before .before .before .before .before .before .before .before .before .before .before .before .before .loop .inv)
+refuse-requires-5 c κs = room (c .before .before .before .before .before .before .before .before .before .before .before .before)
 
 loop-less-8 : tie.Need-loop-less-8 Inv-loop2 μ-loop2 Inv-loop μ-loop
-loop-less-8 c = omega (arith, (c .before .before .before .before .before .before .before .before .before .before .before .before .before .before .before .before .before .if1 .left), (c .before .before .before .before .before .before .before .before .before .before .before .before .before .before .before .before .before .before .before .find .ensures .0 .1))
+loop-less-8 c = shorter (c .before .before .before .before .before .before .before .before .before .before .before .before .before .before .before)
 
 loop-again-8 : tie.Need-loop-again-8 Inv-loop2 μ-loop2 Inv-loop μ-loop
 unfolding changed
-loop-again-8 c = let none : 64 ≤ (firstFrom 0 ((c .before .before .before .before .before .before .before .before .before .before .before .before .before .before .before .before .before .before .before .before .loop .run) .slots)) = let q = first-least (drop (c .before .before .before .before .before .before .loop2 .j) ((c .before .before .before .before .before .before .before .before .before .before .before .before .before .before .before .before .before .before .before .before .loop .run) .slots)) (c .before .before .before .before .before .before .loop2 .j) in omega (arith, q, (c .before .before .before .before .before .before .loop2 .inv .1), (c .before .before .before .before .if3 .left)) in taking-next (c .before .before .before .before .before .before .before .before .before .before .before .before .before .before .before .before .before .before .before .before .before .before .before .args .s .now) (c .before .before .before .before .before .before .before .before .before .before .before .before .before .before .before .before .before .before .before .before .loop .i) ((c .before .before .before .before .before .before .before .before .before .before .before .before .before .before .before .before .before .before .before .find .result) .end) ((c .before .before .before .before .before .before .before .before .before .before .before .before .before .before .before .before .before .before .before .find .result) .step) (c .before .before .before .before .before .before .before .before .before .before .before .before .before .before .before .before .before .if1 .left) ((c .before .before .before .before .before .before .before .before .before .before .before .before .before .before .before .before .before .before .before .find .ensures .0 .1)) ((c .before .before .before .before .before .before .before .before .before .before .before .before .before .before .before .before .before .before .before .find .ensures .1 .1) (c .before .before .before .before .before .before .before .before .before .before .before .before .before .before .before .before .before .if1 .left)) (c .before .before .before .before .before .before .before .before .before .before .before .before .before .before .before .before .before .before .before .before .before .before .before .args .at) (c .before .before .before .before .before .before .before .before .before .before .before .before .before .before .before .before .before .before .before .before .before .before .before .args .row) (c .before .before .before .before .before .before .before .before .before .before .before .before .before .before .before .before .before .before .before .before .before .before .before .args .t5) (c .before .before .before .before .before .before .before .before .before .before .before .before .before .before .before .before .before .before .before .before .before .before .before .args .out .now) (c .before .before .before .before .before .before .before .before .before .before .before .before .before .before .before .before .before .before .before .before .loop .out) (c .before .before .before .before .before .before .before .before .before .before .before .before .before .before .before .before .before .before .before .before .loop .o) (c .before .before .before .before .before .before .before .before .before .before .before .before .before .before .before .before .before .before .before .before .loop .n) (c .before .before .before .before .before .before .before .before .before .before .before .before .before .before .before .before .before .before .before .before .loop .run) (c .before .before .before .before .before .before .before .before .before .before .before .before .before .before .before .before .before .before .before .before .loop .inv) _ _ _ (sym (turn (c .before .before .before .before .before .before .before .before .before .before .before .before .before .before .before .before .before .before .before .before .loop .run) ((c .before .before .before .before .before .before .before .before .before .before .before .before .before .before .before .before .before .before .before .find .result) .step) ((c .before .before .before .before .before .before .before .before .before .before .before .before .before .before .before .before .before .before .before .before .loop .inv .sound)) (c .before .before .before .before .before .before .before .before .before .before .before .before .before .before .before .admit .result) _ (c .before .before .before .before .before .before .before .before .before .before .before .before .before .before .before .admit .ensures) (c .before .before .before .before .before .before .before .before .before .before .before .before .before .c3 .given .1) _ (decide-sends (c .before .before .before .before .before .before .before .before .before .before .before .before .before .before .before .before .before .before .before .before .loop .run) _ _ ∙ (c .before .before .before .before .before .before .before .before .before .before .asks .ensures) (firstFrom 0 ((c .before .before .before .before .before .before .before .before .before .before .before .before .before .before .before .before .before .before .before .before .loop .run) .slots)) ∙ ap (askingAs (firstFrom 0 ((c .before .before .before .before .before .before .before .before .before .before .before .before .before .before .before .before .before .before .before .before .loop .run) .slots))) (c .before .before .before .before .before .before .before .before .request .given .1) ∙ sent-nowhere (firstFrom 0 ((c .before .before .before .before .before .before .before .before .before .before .before .before .before .before .before .before .before .before .before .before .loop .run) .slots)) _ none))) ((c .before .before .refuse5 .ensures .0)) ((c .before .before .refuse5 .ensures .1))
+loop-again-8 c =
+    let h = c .before .before .before .before .before .before .before .before .before .before .before .before .before .before .before in
+    let none : 64 ≤ (firstFrom 0 ((held h) .slots)) = let q = first-least (drop (c .before .before .before .before .before .before .loop2 .j) ((held h) .slots)) (c .before .before .before .before .before .before .loop2 .j) in omega (arith, q, (c .before .before .before .before .before .before .loop2 .inv .1), (c .before .before .before .before .if3 .left)) in
+    next h _ _ _
+    (admitted h _ (c .before .before .before .before .before .before .before .before .before .before .before .before .before .c3 .given .1) _
+    (decide-sends (held h) _ _
+    ∙ (c .before .before .before .before .before .before .before .before .before .before .asks .ensures) (firstFrom 0 ((held h) .slots))
+    ∙ ap (askingAs (firstFrom 0 ((held h) .slots))) (c .before .before .before .before .before .before .before .before .request .given .1)
+    ∙ sent-nowhere (firstFrom 0 ((held h) .slots)) _ none))
+    (c .before .before .refuse5 .ensures .0)
+    (c .before .before .refuse5 .ensures .1)
 
 enum-known-j : tie.Need-enum-known-j Inv-loop2 μ-loop2 Inv-loop μ-loop
 enum-known-j c = search needs
@@ -274,20 +419,28 @@ mul-t-2 : tie.Need-mul-t-2 Inv-loop2 μ-loop2 Inv-loop μ-loop
 mul-t-2 c = search needs
 
 element-copy-out-t-2 : tie.Need-element-copy-out-t-2 Inv-loop2 μ-loop2 Inv-loop μ-loop
-element-copy-out-t-2 c = delivers-place (c .before .before .before .before .before .before .before .before .loop .run) ((c .before .before .before .before .before .before .before .find .result) .step) ((c .before .before .before .before .before .before .before .before .loop .inv .sound)) _ (sym (c .before .j .given .1) ∙ (c .before .before .before .admit .ensures))
+element-copy-out-t-2 c =
+    let h = c .before .before .before in
+    delivers-place (held h) (asks h) (sound h) _ (sym (c .before .j .given .1) ∙ h .admit .ensures)
 
 enum-told : tie.Need-enum-told Inv-loop2 μ-loop2 Inv-loop μ-loop
 enum-told c = search needs
 
 refuse-requires-6 : tie.Need-refuse-requires-6 Inv-loop2 μ-loop2 Inv-loop μ-loop
-refuse-requires-6 c κs = taking-room (c .before .before .before .before .before .before .before .before .before .before .before .before .before .before .before .args .s .now) (c .before .before .before .before .before .before .before .before .before .before .before .before .loop .i) ((c .before .before .before .before .before .before .before .before .before .before .before .find .result) .end) ((c .before .before .before .before .before .before .before .before .before .before .before .find .result) .step) (c .before .before .before .before .before .before .before .before .before .if1 .left) ((c .before .before .before .before .before .before .before .before .before .before .before .find .ensures .0 .1)) ((c .before .before .before .before .before .before .before .before .before .before .before .find .ensures .1 .1) (c .before .before .before .before .before .before .before .before .before .if1 .left)) (c .before .before .before .before .before .before .before .before .before .before .before .before .before .before .before .args .at) (c .before .before .before .before .before .before .before .before .before .before .before .before .before .before .before .args .row) (c .before .before .before .before .before .before .before .before .before .before .before .before .before .before .before .args .t5) (c .before .before .before .before .before .before .before .before .before .before .before .before .before .before .before .args .out .now) (c .before .before .before .before .before .before .before .before .before .before .before .before .loop .out) (c .before .before .before .before .before .before .before .before .before .before .before .before .loop .o) (c .before .before .before .before .before .before .before .before .before .before .before .before .loop .n) (c .before .before .before .before .before .before .before .before .before .before .before .before .loop .run) (c .before .before .before .before .before .before .before .before .before .before .before .before .loop .inv)
+refuse-requires-6 c κs = room (c .before .before .before .before .before .before .before)
 
 loop-less-9 : tie.Need-loop-less-9 Inv-loop2 μ-loop2 Inv-loop μ-loop
-loop-less-9 c = omega (arith, (c .before .before .before .before .before .before .before .before .before .before .before .before .if1 .left), (c .before .before .before .before .before .before .before .before .before .before .before .before .before .before .find .ensures .0 .1))
+loop-less-9 c = shorter (c .before .before .before .before .before .before .before .before .before .before)
 
 loop-again-9 : tie.Need-loop-again-9 Inv-loop2 μ-loop2 Inv-loop μ-loop
 unfolding changed
-loop-again-9 c = taking-next (c .before .before .before .before .before .before .before .before .before .before .before .before .before .before .before .before .before .before .args .s .now) (c .before .before .before .before .before .before .before .before .before .before .before .before .before .before .before .loop .i) ((c .before .before .before .before .before .before .before .before .before .before .before .before .before .before .find .result) .end) ((c .before .before .before .before .before .before .before .before .before .before .before .before .before .before .find .result) .step) (c .before .before .before .before .before .before .before .before .before .before .before .before .if1 .left) ((c .before .before .before .before .before .before .before .before .before .before .before .before .before .before .find .ensures .0 .1)) ((c .before .before .before .before .before .before .before .before .before .before .before .before .before .before .find .ensures .1 .1) (c .before .before .before .before .before .before .before .before .before .before .before .before .if1 .left)) (c .before .before .before .before .before .before .before .before .before .before .before .before .before .before .before .before .before .before .args .at) (c .before .before .before .before .before .before .before .before .before .before .before .before .before .before .before .before .before .before .args .row) (c .before .before .before .before .before .before .before .before .before .before .before .before .before .before .before .before .before .before .args .t5) (c .before .before .before .before .before .before .before .before .before .before .before .before .before .before .before .before .before .before .args .out .now) (c .before .before .before .before .before .before .before .before .before .before .before .before .before .before .before .loop .out) (c .before .before .before .before .before .before .before .before .before .before .before .before .before .before .before .loop .o) (c .before .before .before .before .before .before .before .before .before .before .before .before .before .before .before .loop .n) (c .before .before .before .before .before .before .before .before .before .before .before .before .before .before .before .loop .run) (c .before .before .before .before .before .before .before .before .before .before .before .before .before .before .before .loop .inv) _ _ _ (sym (turn (c .before .before .before .before .before .before .before .before .before .before .before .before .before .before .before .loop .run) ((c .before .before .before .before .before .before .before .before .before .before .before .before .before .before .find .result) .step) ((c .before .before .before .before .before .before .before .before .before .before .before .before .before .before .before .loop .inv .sound)) (c .before .before .before .before .before .before .before .before .before .before .admit .result) _ (c .before .before .before .before .before .before .before .before .before .before .admit .ensures) (c .before .before .before .before .before .before .before .before .j .given .1) _ (decide-empty (c .before .before .before .before .before .before .before .before .before .before .before .before .before .before .before .loop .run) _ (c .before .before .before .before .enum-told .given .1)))) ((c .before .before .refuse6 .ensures .0)) ((c .before .before .refuse6 .ensures .1))
+loop-again-9 c =
+    let h = c .before .before .before .before .before .before .before .before .before .before in
+    next h _ _ _
+    (admitted h _ (c .before .before .before .before .before .before .before .before .j .given .1) _
+    (decide-empty (held h) _ (c .before .before .before .before .enum-told .given .1)))
+    (c .before .before .refuse6 .ensures .0)
+    (c .before .before .refuse6 .ensures .1)
 
 enum-known-held : tie.Need-enum-known-held Inv-loop2 μ-loop2 Inv-loop μ-loop
 enum-known-held c = search needs
@@ -299,13 +452,17 @@ mul-k : tie.Need-mul-k Inv-loop2 μ-loop2 Inv-loop μ-loop
 mul-k c = search needs
 
 element-copy-out-k : tie.Need-element-copy-out-k Inv-loop2 μ-loop2 Inv-loop μ-loop
-element-copy-out-k c = request-places (c .before .before .before .before .before .before .before .before .before .before .before .before .before .loop .run) ((c .before .before .before .before .before .before .before .before .before .before .before .before .before .loop .inv .sound)) _ _ (c .before .before .held .given .1) .1
+element-copy-out-k c =
+    let h = c .before .before .before .before .before .before .before .before in
+    request-places (held h) (sound h) _ _ (c .before .before .held .given .1) .1
 
 sight-requires : tie.Need-sight-requires Inv-loop2 μ-loop2 Inv-loop μ-loop
 sight-requires c κs = search needs
 
 add-run-4 : tie.Need-add-run-4 Inv-loop2 μ-loop2 Inv-loop μ-loop
-add-run-4 c = omega (arith, steps-most (c .before .before .before .before .before .before .before .before .before .before .before .before .before .before .before .loop .run) ((c .before .before .before .before .before .before .before .before .before .before .before .before .before .before .before .loop .inv .sound)))
+add-run-4 c =
+    let h = c .before .before .before .before .before .before .before .before .before .before in
+    omega (arith, steps-most (held h) (sound h))
 
 answer-requires : tie.Need-answer-requires Inv-loop2 μ-loop2 Inv-loop μ-loop
 answer-requires c κs = search needs
@@ -320,20 +477,35 @@ mul-t145 : tie.Need-mul-t145 Inv-loop2 μ-loop2 Inv-loop μ-loop
 mul-t145 c = search needs
 
 element-set-from-run : tie.Need-element-set-from-run Inv-loop2 μ-loop2 Inv-loop μ-loop
-element-set-from-run c = delivers-place (c .before .before .before .before .before .before .before .before .before .before .before .before .before .before .before .before .before .before .loop .run) ((c .before .before .before .before .before .before .before .before .before .before .before .before .before .before .before .before .before .find .result) .step) ((c .before .before .before .before .before .before .before .before .before .before .before .before .before .before .before .before .before .before .loop .inv .sound)) _ (sym (c .before .before .before .before .before .before .before .before .before .before .before .j .given .1) ∙ (c .before .before .before .before .before .before .before .before .before .before .before .before .before .admit .ensures))
+element-set-from-run c =
+    let h = c .before .before .before .before .before .before .before .before .before .before .before .before .before in
+    delivers-place (held h) (asks h) (sound h) _ (sym (c .before .before .before .before .before .before .before .before .before .before .before .j .given .1) ∙ h .admit .ensures)
 
 add-put-unanswered : tie.Need-add-put-unanswered Inv-loop2 μ-loop2 Inv-loop μ-loop
-add-put-unanswered c = omega (arith, delivers-place (c .before .before .before .before .before .before .before .before .before .before .before .before .before .before .before .before .before .before .before .loop .run) ((c .before .before .before .before .before .before .before .before .before .before .before .before .before .before .before .before .before .before .find .result) .step) ((c .before .before .before .before .before .before .before .before .before .before .before .before .before .before .before .before .before .before .before .loop .inv .sound)) _ (sym (c .before .before .before .before .before .before .before .before .before .before .before .before .j .given .1) ∙ (c .before .before .before .before .before .before .before .before .before .before .before .before .before .before .admit .ensures)))
+add-put-unanswered c =
+    let h = c .before .before .before .before .before .before .before .before .before .before .before .before .before .before in
+    omega (arith, delivers-place (held h) (asks h) (sound h) _ (sym (c .before .before .before .before .before .before .before .before .before .before .before .before .j .given .1) ∙ h .admit .ensures))
 
 put-unanswered-requires : tie.Need-put-unanswered-requires Inv-loop2 μ-loop2 Inv-loop μ-loop
-put-unanswered-requires c κs = taking-room (c .before .before .before .before .before .before .before .before .before .before .before .before .before .before .before .before .before .before .before .before .before .before .args .s .now) (c .before .before .before .before .before .before .before .before .before .before .before .before .before .before .before .before .before .before .before .loop .i) ((c .before .before .before .before .before .before .before .before .before .before .before .before .before .before .before .before .before .before .find .result) .end) ((c .before .before .before .before .before .before .before .before .before .before .before .before .before .before .before .before .before .before .find .result) .step) (c .before .before .before .before .before .before .before .before .before .before .before .before .before .before .before .before .if1 .left) ((c .before .before .before .before .before .before .before .before .before .before .before .before .before .before .before .before .before .before .find .ensures .0 .1)) ((c .before .before .before .before .before .before .before .before .before .before .before .before .before .before .before .before .before .before .find .ensures .1 .1) (c .before .before .before .before .before .before .before .before .before .before .before .before .before .before .before .before .if1 .left)) (c .before .before .before .before .before .before .before .before .before .before .before .before .before .before .before .before .before .before .before .before .before .before .args .at) (c .before .before .before .before .before .before .before .before .before .before .before .before .before .before .before .before .before .before .before .before .before .before .args .row) (c .before .before .before .before .before .before .before .before .before .before .before .before .before .before .before .before .before .before .before .before .before .before .args .t5) (c .before .before .before .before .before .before .before .before .before .before .before .before .before .before .before .before .before .before .before .before .before .before .args .out .now) (c .before .before .before .before .before .before .before .before .before .before .before .before .before .before .before .before .before .before .before .loop .out) (c .before .before .before .before .before .before .before .before .before .before .before .before .before .before .before .before .before .before .before .loop .o) (c .before .before .before .before .before .before .before .before .before .before .before .before .before .before .before .before .before .before .before .loop .n) (c .before .before .before .before .before .before .before .before .before .before .before .before .before .before .before .before .before .before .before .loop .run) (c .before .before .before .before .before .before .before .before .before .before .before .before .before .before .before .before .before .before .before .loop .inv)
+put-unanswered-requires c κs =
+    room (c .before .before .before .before .before .before .before .before .before .before .before .before .before .before)
 
 loop-less-10 : tie.Need-loop-less-10 Inv-loop2 μ-loop2 Inv-loop μ-loop
-loop-less-10 c = omega (arith, (c .before .before .before .before .before .before .before .before .before .before .before .before .before .before .before .before .before .before .before .if1 .left), (c .before .before .before .before .before .before .before .before .before .before .before .before .before .before .before .before .before .before .before .before .before .find .ensures .0 .1))
+loop-less-10 c =
+    shorter (c .before .before .before .before .before .before .before .before .before .before .before .before .before .before .before .before .before)
 
 loop-again-10 : tie.Need-loop-again-10 Inv-loop2 μ-loop2 Inv-loop μ-loop
 unfolding changed
-loop-again-10 c = taking-next (c .before .before .before .before .before .before .before .before .before .before .before .before .before .before .before .before .before .before .before .before .before .before .before .before .before .args .s .now) (c .before .before .before .before .before .before .before .before .before .before .before .before .before .before .before .before .before .before .before .before .before .before .loop .i) ((c .before .before .before .before .before .before .before .before .before .before .before .before .before .before .before .before .before .before .before .before .before .find .result) .end) ((c .before .before .before .before .before .before .before .before .before .before .before .before .before .before .before .before .before .before .before .before .before .find .result) .step) (c .before .before .before .before .before .before .before .before .before .before .before .before .before .before .before .before .before .before .before .if1 .left) ((c .before .before .before .before .before .before .before .before .before .before .before .before .before .before .before .before .before .before .before .before .before .find .ensures .0 .1)) ((c .before .before .before .before .before .before .before .before .before .before .before .before .before .before .before .before .before .before .before .before .before .find .ensures .1 .1) (c .before .before .before .before .before .before .before .before .before .before .before .before .before .before .before .before .before .before .before .if1 .left)) (c .before .before .before .before .before .before .before .before .before .before .before .before .before .before .before .before .before .before .before .before .before .before .before .before .before .args .at) (c .before .before .before .before .before .before .before .before .before .before .before .before .before .before .before .before .before .before .before .before .before .before .before .before .before .args .row) (c .before .before .before .before .before .before .before .before .before .before .before .before .before .before .before .before .before .before .before .before .before .before .before .before .before .args .t5) (c .before .before .before .before .before .before .before .before .before .before .before .before .before .before .before .before .before .before .before .before .before .before .before .before .before .args .out .now) (c .before .before .before .before .before .before .before .before .before .before .before .before .before .before .before .before .before .before .before .before .before .before .loop .out) (c .before .before .before .before .before .before .before .before .before .before .before .before .before .before .before .before .before .before .before .before .before .before .loop .o) (c .before .before .before .before .before .before .before .before .before .before .before .before .before .before .before .before .before .before .before .before .before .before .loop .n) (c .before .before .before .before .before .before .before .before .before .before .before .before .before .before .before .before .before .before .before .before .before .before .loop .run) (c .before .before .before .before .before .before .before .before .before .before .before .before .before .before .before .before .before .before .before .before .before .before .loop .inv) _ _ _ (sym (turn (c .before .before .before .before .before .before .before .before .before .before .before .before .before .before .before .before .before .before .before .before .before .before .loop .run) ((c .before .before .before .before .before .before .before .before .before .before .before .before .before .before .before .before .before .before .before .before .before .find .result) .step) ((c .before .before .before .before .before .before .before .before .before .before .before .before .before .before .before .before .before .before .before .before .before .before .loop .inv .sound)) (c .before .before .before .before .before .before .before .before .before .before .before .before .before .before .before .before .before .admit .result) _ (c .before .before .before .before .before .before .before .before .before .before .before .before .before .before .before .before .before .admit .ensures) (c .before .before .before .before .before .before .before .before .before .before .before .before .before .before .before .j .given .1) _ (decide-request (c .before .before .before .before .before .before .before .before .before .before .before .before .before .before .before .before .before .before .before .before .before .before .loop .run) _ _ (c .before .before .before .before .before .before .before .before .before .before .before .held .given .1) ∙ ap (answersOf ((c .before .before .before .before .before .before .before .before .before .before .before .before .before .before .before .j .given .0 .0)) ((c .before .before .before .before .before .before .before .before .before .before .before .held .given .0 .0))) (sym (c .before .before .before .before .before .before .before .sight .ensures)) ∙ (c .before .before .before .before .before .before .answer .ensures) ((c .before .before .before .before .before .before .before .before .before .before .before .before .before .before .before .j .given .0 .0)) ∙ ap (backAs ((c .before .before .before .before .before .before .before .before .before .before .before .before .before .before .before .j .given .0 .0)) ((c .before .before .before .before .before .before .before .before .before .before .before .held .given .0 .0))) (c .before .before .before .before .enum-told2 .given .1)))) ((c .before .before .put-unanswered .ensures .0)) ((c .before .before .put-unanswered .ensures .1))
+loop-again-10 c =
+    let h = c .before .before .before .before .before .before .before .before .before .before .before .before .before .before .before .before .before in
+    next h _ _ _
+    (admitted h _ (c .before .before .before .before .before .before .before .before .before .before .before .before .before .before .before .j .given .1) _
+    (decide-request (held h) _ _ (c .before .before .before .before .before .before .before .before .before .before .before .held .given .1)
+    ∙ ap (answersOf (c .before .before .before .before .before .before .before .before .before .before .before .before .before .before .before .j .given .0 .0) (c .before .before .before .before .before .before .before .before .before .before .before .held .given .0 .0)) (sym (c .before .before .before .before .before .before .before .sight .ensures))
+    ∙ (c .before .before .before .before .before .before .answer .ensures) (c .before .before .before .before .before .before .before .before .before .before .before .before .before .before .before .j .given .0 .0)
+    ∙ ap (backAs (c .before .before .before .before .before .before .before .before .before .before .before .before .before .before .before .j .given .0 .0) (c .before .before .before .before .before .before .before .before .before .before .before .held .given .0 .0)) (c .before .before .before .before .enum-told2 .given .1)))
+    (c .before .before .put-unanswered .ensures .0)
+    (c .before .before .put-unanswered .ensures .1)
 
 enum-known-b : tie.Need-enum-known-b Inv-loop2 μ-loop2 Inv-loop μ-loop
 enum-known-b c = search needs
@@ -348,20 +520,36 @@ mul-t153 : tie.Need-mul-t153 Inv-loop2 μ-loop2 Inv-loop μ-loop
 mul-t153 c = search needs
 
 element-set-from-run-2 : tie.Need-element-set-from-run-2 Inv-loop2 μ-loop2 Inv-loop μ-loop
-element-set-from-run-2 c = delivers-place (c .before .before .before .before .before .before .before .before .before .before .before .before .before .before .before .before .before .before .before .before .loop .run) ((c .before .before .before .before .before .before .before .before .before .before .before .before .before .before .before .before .before .before .before .find .result) .step) ((c .before .before .before .before .before .before .before .before .before .before .before .before .before .before .before .before .before .before .before .before .loop .inv .sound)) _ (sym (c .before .before .before .before .before .before .before .before .before .before .before .before .before .j .given .1) ∙ (c .before .before .before .before .before .before .before .before .before .before .before .before .before .before .before .admit .ensures))
+element-set-from-run-2 c =
+    let h = c .before .before .before .before .before .before .before .before .before .before .before .before .before .before .before in
+    delivers-place (held h) (asks h) (sound h) _ (sym (c .before .before .before .before .before .before .before .before .before .before .before .before .before .j .given .1) ∙ h .admit .ensures)
 
 add-put-answered : tie.Need-add-put-answered Inv-loop2 μ-loop2 Inv-loop μ-loop
-add-put-answered c = omega (arith, delivers-place (c .before .before .before .before .before .before .before .before .before .before .before .before .before .before .before .before .before .before .before .before .before .loop .run) ((c .before .before .before .before .before .before .before .before .before .before .before .before .before .before .before .before .before .before .before .before .find .result) .step) ((c .before .before .before .before .before .before .before .before .before .before .before .before .before .before .before .before .before .before .before .before .before .loop .inv .sound)) _ (sym (c .before .before .before .before .before .before .before .before .before .before .before .before .before .before .j .given .1) ∙ (c .before .before .before .before .before .before .before .before .before .before .before .before .before .before .before .before .admit .ensures)))
+add-put-answered c =
+    let h = c .before .before .before .before .before .before .before .before .before .before .before .before .before .before .before .before in
+    omega (arith, delivers-place (held h) (asks h) (sound h) _ (sym (c .before .before .before .before .before .before .before .before .before .before .before .before .before .before .j .given .1) ∙ h .admit .ensures))
 
 put-answered-requires : tie.Need-put-answered-requires Inv-loop2 μ-loop2 Inv-loop μ-loop
-put-answered-requires c κs = taking-room (c .before .before .before .before .before .before .before .before .before .before .before .before .before .before .before .before .before .before .before .before .before .before .before .before .args .s .now) (c .before .before .before .before .before .before .before .before .before .before .before .before .before .before .before .before .before .before .before .before .before .loop .i) ((c .before .before .before .before .before .before .before .before .before .before .before .before .before .before .before .before .before .before .before .before .find .result) .end) ((c .before .before .before .before .before .before .before .before .before .before .before .before .before .before .before .before .before .before .before .before .find .result) .step) (c .before .before .before .before .before .before .before .before .before .before .before .before .before .before .before .before .before .before .if1 .left) ((c .before .before .before .before .before .before .before .before .before .before .before .before .before .before .before .before .before .before .before .before .find .ensures .0 .1)) ((c .before .before .before .before .before .before .before .before .before .before .before .before .before .before .before .before .before .before .before .before .find .ensures .1 .1) (c .before .before .before .before .before .before .before .before .before .before .before .before .before .before .before .before .before .before .if1 .left)) (c .before .before .before .before .before .before .before .before .before .before .before .before .before .before .before .before .before .before .before .before .before .before .before .before .args .at) (c .before .before .before .before .before .before .before .before .before .before .before .before .before .before .before .before .before .before .before .before .before .before .before .before .args .row) (c .before .before .before .before .before .before .before .before .before .before .before .before .before .before .before .before .before .before .before .before .before .before .before .before .args .t5) (c .before .before .before .before .before .before .before .before .before .before .before .before .before .before .before .before .before .before .before .before .before .before .before .before .args .out .now) (c .before .before .before .before .before .before .before .before .before .before .before .before .before .before .before .before .before .before .before .before .before .loop .out) (c .before .before .before .before .before .before .before .before .before .before .before .before .before .before .before .before .before .before .before .before .before .loop .o) (c .before .before .before .before .before .before .before .before .before .before .before .before .before .before .before .before .before .before .before .before .before .loop .n) (c .before .before .before .before .before .before .before .before .before .before .before .before .before .before .before .before .before .before .before .before .before .loop .run) (c .before .before .before .before .before .before .before .before .before .before .before .before .before .before .before .before .before .before .before .before .before .loop .inv)
+put-answered-requires c κs =
+    room (c .before .before .before .before .before .before .before .before .before .before .before .before .before .before .before .before)
 
 loop-less-11 : tie.Need-loop-less-11 Inv-loop2 μ-loop2 Inv-loop μ-loop
-loop-less-11 c = omega (arith, (c .before .before .before .before .before .before .before .before .before .before .before .before .before .before .before .before .before .before .before .before .before .if1 .left), (c .before .before .before .before .before .before .before .before .before .before .before .before .before .before .before .before .before .before .before .before .before .before .before .find .ensures .0 .1))
+loop-less-11 c =
+    shorter (c .before .before .before .before .before .before .before .before .before .before .before .before .before .before .before .before .before .before .before)
 
 loop-again-11 : tie.Need-loop-again-11 Inv-loop2 μ-loop2 Inv-loop μ-loop
 unfolding changed
-loop-again-11 c = taking-next (c .before .before .before .before .before .before .before .before .before .before .before .before .before .before .before .before .before .before .before .before .before .before .before .before .before .before .before .args .s .now) (c .before .before .before .before .before .before .before .before .before .before .before .before .before .before .before .before .before .before .before .before .before .before .before .before .loop .i) ((c .before .before .before .before .before .before .before .before .before .before .before .before .before .before .before .before .before .before .before .before .before .before .before .find .result) .end) ((c .before .before .before .before .before .before .before .before .before .before .before .before .before .before .before .before .before .before .before .before .before .before .before .find .result) .step) (c .before .before .before .before .before .before .before .before .before .before .before .before .before .before .before .before .before .before .before .before .before .if1 .left) ((c .before .before .before .before .before .before .before .before .before .before .before .before .before .before .before .before .before .before .before .before .before .before .before .find .ensures .0 .1)) ((c .before .before .before .before .before .before .before .before .before .before .before .before .before .before .before .before .before .before .before .before .before .before .before .find .ensures .1 .1) (c .before .before .before .before .before .before .before .before .before .before .before .before .before .before .before .before .before .before .before .before .before .if1 .left)) (c .before .before .before .before .before .before .before .before .before .before .before .before .before .before .before .before .before .before .before .before .before .before .before .before .before .before .before .args .at) (c .before .before .before .before .before .before .before .before .before .before .before .before .before .before .before .before .before .before .before .before .before .before .before .before .before .before .before .args .row) (c .before .before .before .before .before .before .before .before .before .before .before .before .before .before .before .before .before .before .before .before .before .before .before .before .before .before .before .args .t5) (c .before .before .before .before .before .before .before .before .before .before .before .before .before .before .before .before .before .before .before .before .before .before .before .before .before .before .before .args .out .now) (c .before .before .before .before .before .before .before .before .before .before .before .before .before .before .before .before .before .before .before .before .before .before .before .before .loop .out) (c .before .before .before .before .before .before .before .before .before .before .before .before .before .before .before .before .before .before .before .before .before .before .before .before .loop .o) (c .before .before .before .before .before .before .before .before .before .before .before .before .before .before .before .before .before .before .before .before .before .before .before .before .loop .n) (c .before .before .before .before .before .before .before .before .before .before .before .before .before .before .before .before .before .before .before .before .before .before .before .before .loop .run) (c .before .before .before .before .before .before .before .before .before .before .before .before .before .before .before .before .before .before .before .before .before .before .before .before .loop .inv) _ _ _ (sym (turn (c .before .before .before .before .before .before .before .before .before .before .before .before .before .before .before .before .before .before .before .before .before .before .before .before .loop .run) ((c .before .before .before .before .before .before .before .before .before .before .before .before .before .before .before .before .before .before .before .before .before .before .before .find .result) .step) ((c .before .before .before .before .before .before .before .before .before .before .before .before .before .before .before .before .before .before .before .before .before .before .before .before .loop .inv .sound)) (c .before .before .before .before .before .before .before .before .before .before .before .before .before .before .before .before .before .before .before .admit .result) _ (c .before .before .before .before .before .before .before .before .before .before .before .before .before .before .before .before .before .before .before .admit .ensures) (c .before .before .before .before .before .before .before .before .before .before .before .before .before .before .before .before .before .j .given .1) _ (decide-request (c .before .before .before .before .before .before .before .before .before .before .before .before .before .before .before .before .before .before .before .before .before .before .before .before .loop .run) _ _ (c .before .before .before .before .before .before .before .before .before .before .before .before .before .held .given .1) ∙ ap (answersOf ((c .before .before .before .before .before .before .before .before .before .before .before .before .before .before .before .before .before .j .given .0 .0)) ((c .before .before .before .before .before .before .before .before .before .before .before .before .before .held .given .0 .0))) (sym (c .before .before .before .before .before .before .before .before .before .sight .ensures)) ∙ (c .before .before .before .before .before .before .before .before .answer .ensures) ((c .before .before .before .before .before .before .before .before .before .before .before .before .before .before .before .before .before .j .given .0 .0)) ∙ ap (backAs ((c .before .before .before .before .before .before .before .before .before .before .before .before .before .before .before .before .before .j .given .0 .0)) ((c .before .before .before .before .before .before .before .before .before .before .before .before .before .held .given .0 .0))) (c .before .before .before .before .before .before .b .given .1) ∙ ap (λ (t : Slot). Yes (Answered (((c .before .before .before .before .before .before .before .before .before .before .before .before .before .before .before .before .before .j .given .0 .0)) + 1)) (OfSlot ((c .before .before .before .before .before .before .before .before .before .before .before .before .before .before .before .before .before .j .given .0 .0)) t)) (sym (c .before .before .before .before .reply .ensures))))) ((c .before .before .put-answered .ensures .0)) ((c .before .before .put-answered .ensures .1))
+loop-again-11 c =
+    let h = c .before .before .before .before .before .before .before .before .before .before .before .before .before .before .before .before .before .before .before in
+    next h _ _ _
+    (admitted h _ (c .before .before .before .before .before .before .before .before .before .before .before .before .before .before .before .before .before .j .given .1) _
+    (decide-request (held h) _ _ (c .before .before .before .before .before .before .before .before .before .before .before .before .before .held .given .1)
+    ∙ ap (answersOf (c .before .before .before .before .before .before .before .before .before .before .before .before .before .before .before .before .before .j .given .0 .0) (c .before .before .before .before .before .before .before .before .before .before .before .before .before .held .given .0 .0)) (sym (c .before .before .before .before .before .before .before .before .before .sight .ensures))
+    ∙ (c .before .before .before .before .before .before .before .before .answer .ensures) (c .before .before .before .before .before .before .before .before .before .before .before .before .before .before .before .before .before .j .given .0 .0)
+    ∙ ap (backAs (c .before .before .before .before .before .before .before .before .before .before .before .before .before .before .before .before .before .j .given .0 .0) (c .before .before .before .before .before .before .before .before .before .before .before .before .before .held .given .0 .0)) (c .before .before .before .before .before .before .b .given .1)
+    ∙ ap (λ (t : Slot). Yes (Answered ((c .before .before .before .before .before .before .before .before .before .before .before .before .before .before .before .before .before .j .given .0 .0) + 1)) (OfSlot (c .before .before .before .before .before .before .before .before .before .before .before .before .before .before .before .before .before .j .given .0 .0) t)) (sym (c .before .before .before .before .reply .ensures))))
+    (c .before .before .put-answered .ensures .0)
+    (c .before .before .put-answered .ensures .1)
 
 enum-known-e : tie.Need-enum-known-e Inv-loop2 μ-loop2 Inv-loop μ-loop
 enum-known-e c = search needs
@@ -376,13 +564,18 @@ mul-t162 : tie.Need-mul-t162 Inv-loop2 μ-loop2 Inv-loop μ-loop
 mul-t162 c = search needs
 
 element-set-from-run-3 : tie.Need-element-set-from-run-3 Inv-loop2 μ-loop2 Inv-loop μ-loop
-element-set-from-run-3 c = delivers-place (c .before .before .before .before .before .before .before .before .before .before .before .before .before .before .before .before .before .before .before .before .loop .run) ((c .before .before .before .before .before .before .before .before .before .before .before .before .before .before .before .before .before .before .before .find .result) .step) ((c .before .before .before .before .before .before .before .before .before .before .before .before .before .before .before .before .before .before .before .before .loop .inv .sound)) _ (sym (c .before .before .before .before .before .before .before .before .before .before .before .before .before .j .given .1) ∙ (c .before .before .before .before .before .before .before .before .before .before .before .before .before .before .before .admit .ensures))
+element-set-from-run-3 c =
+    let h = c .before .before .before .before .before .before .before .before .before .before .before .before .before .before .before in
+    delivers-place (held h) (asks h) (sound h) _ (sym (c .before .before .before .before .before .before .before .before .before .before .before .before .before .j .given .1) ∙ h .admit .ensures)
 
 add-put-answered-2 : tie.Need-add-put-answered-2 Inv-loop2 μ-loop2 Inv-loop μ-loop
-add-put-answered-2 c = omega (arith, delivers-place (c .before .before .before .before .before .before .before .before .before .before .before .before .before .before .before .before .before .before .before .before .before .loop .run) ((c .before .before .before .before .before .before .before .before .before .before .before .before .before .before .before .before .before .before .before .before .find .result) .step) ((c .before .before .before .before .before .before .before .before .before .before .before .before .before .before .before .before .before .before .before .before .before .loop .inv .sound)) _ (sym (c .before .before .before .before .before .before .before .before .before .before .before .before .before .before .j .given .1) ∙ (c .before .before .before .before .before .before .before .before .before .before .before .before .before .before .before .before .admit .ensures)))
+add-put-answered-2 c =
+    let h = c .before .before .before .before .before .before .before .before .before .before .before .before .before .before .before .before in
+    omega (arith, delivers-place (held h) (asks h) (sound h) _ (sym (c .before .before .before .before .before .before .before .before .before .before .before .before .before .before .j .given .1) ∙ h .admit .ensures))
 
 put-answered-requires-2 : tie.Need-put-answered-requires-2 Inv-loop2 μ-loop2 Inv-loop μ-loop
-put-answered-requires-2 c κs = taking-room (c .before .before .before .before .before .before .before .before .before .before .before .before .before .before .before .before .before .before .before .before .before .before .before .before .args .s .now) (c .before .before .before .before .before .before .before .before .before .before .before .before .before .before .before .before .before .before .before .before .before .loop .i) ((c .before .before .before .before .before .before .before .before .before .before .before .before .before .before .before .before .before .before .before .before .find .result) .end) ((c .before .before .before .before .before .before .before .before .before .before .before .before .before .before .before .before .before .before .before .before .find .result) .step) (c .before .before .before .before .before .before .before .before .before .before .before .before .before .before .before .before .before .before .if1 .left) ((c .before .before .before .before .before .before .before .before .before .before .before .before .before .before .before .before .before .before .before .before .find .ensures .0 .1)) ((c .before .before .before .before .before .before .before .before .before .before .before .before .before .before .before .before .before .before .before .before .find .ensures .1 .1) (c .before .before .before .before .before .before .before .before .before .before .before .before .before .before .before .before .before .before .if1 .left)) (c .before .before .before .before .before .before .before .before .before .before .before .before .before .before .before .before .before .before .before .before .before .before .before .before .args .at) (c .before .before .before .before .before .before .before .before .before .before .before .before .before .before .before .before .before .before .before .before .before .before .before .before .args .row) (c .before .before .before .before .before .before .before .before .before .before .before .before .before .before .before .before .before .before .before .before .before .before .before .before .args .t5) (c .before .before .before .before .before .before .before .before .before .before .before .before .before .before .before .before .before .before .before .before .before .before .before .before .args .out .now) (c .before .before .before .before .before .before .before .before .before .before .before .before .before .before .before .before .before .before .before .before .before .loop .out) (c .before .before .before .before .before .before .before .before .before .before .before .before .before .before .before .before .before .before .before .before .before .loop .o) (c .before .before .before .before .before .before .before .before .before .before .before .before .before .before .before .before .before .before .before .before .before .loop .n) (c .before .before .before .before .before .before .before .before .before .before .before .before .before .before .before .before .before .before .before .before .before .loop .run) (c .before .before .before .before .before .before .before .before .before .before .before .before .before .before .before .before .before .before .before .before .before .loop .inv)
+put-answered-requires-2 c κs =
+    room (c .before .before .before .before .before .before .before .before .before .before .before .before .before .before .before .before)
 
 takes-requires : tie.Need-takes-requires Inv-loop2 μ-loop2 Inv-loop μ-loop
 takes-requires c κs = search needs
@@ -394,32 +587,64 @@ mul-before : tie.Need-mul-before Inv-loop2 μ-loop2 Inv-loop μ-loop
 mul-before c = search needs
 
 element-copy-out-before : tie.Need-element-copy-out-before Inv-loop2 μ-loop2 Inv-loop μ-loop
-element-copy-out-before c = request-places (c .before .before .before .before .before .before .before .before .before .before .before .before .before .before .before .before .before .before .before .before .before .before .before .before .before .before .before .before .loop .run) ((c .before .before .before .before .before .before .before .before .before .before .before .before .before .before .before .before .before .before .before .before .before .before .before .before .before .before .before .before .loop .inv .sound)) _ _ (c .before .before .before .before .before .before .before .before .before .before .before .before .before .before .before .before .before .held .given .1) .1
+element-copy-out-before c =
+    let h = c .before .before .before .before .before .before .before .before .before .before .before .before .before .before .before .before .before .before .before .before .before .before .before in
+    request-places (held h) (sound h) _ _ (c .before .before .before .before .before .before .before .before .before .before .before .before .before .before .before .before .before .held .given .1) .1
 
 offer-requires : tie.Need-offer-requires Inv-loop2 μ-loop2 Inv-loop μ-loop
 offer-requires c κs = search needs
 
 cast-t169 : tie.Need-cast-t169 Inv-loop2 μ-loop2 Inv-loop μ-loop
-cast-t169 c = omega (arith, request-places (c .before .before .before .before .before .before .before .before .before .before .before .before .before .before .before .before .before .before .before .before .before .before .before .before .before .before .before .before .before .before .before .before .before .loop .run) ((c .before .before .before .before .before .before .before .before .before .before .before .before .before .before .before .before .before .before .before .before .before .before .before .before .before .before .before .before .before .before .before .before .before .loop .inv .sound)) _ _ (c .before .before .before .before .before .before .before .before .before .before .before .before .before .before .before .before .before .before .before .before .before .before .held .given .1) .1)
+cast-t169 c =
+    let h = c .before .before .before .before .before .before .before .before .before .before .before .before .before .before .before .before .before .before .before .before .before .before .before .before .before .before .before .before in
+    omega (arith, request-places (held h) (sound h) _ _ (c .before .before .before .before .before .before .before .before .before .before .before .before .before .before .before .before .before .before .before .before .before .before .held .given .1) .1)
 
 mul-t170 : tie.Need-mul-t170 Inv-loop2 μ-loop2 Inv-loop μ-loop
-mul-t170 c = omega (arith, request-places (c .before .before .before .before .before .before .before .before .before .before .before .before .before .before .before .before .before .before .before .before .before .before .before .before .before .before .before .before .before .before .before .before .before .loop .run) ((c .before .before .before .before .before .before .before .before .before .before .before .before .before .before .before .before .before .before .before .before .before .before .before .before .before .before .before .before .before .before .before .before .before .loop .inv .sound)) _ _ (c .before .before .before .before .before .before .before .before .before .before .before .before .before .before .before .before .before .before .before .before .before .before .held .given .1) .1)
+mul-t170 c =
+    let h = c .before .before .before .before .before .before .before .before .before .before .before .before .before .before .before .before .before .before .before .before .before .before .before .before .before .before .before .before in
+    omega (arith, request-places (held h) (sound h) _ _ (c .before .before .before .before .before .before .before .before .before .before .before .before .before .before .before .before .before .before .before .before .before .before .held .given .1) .1)
 
 element-set-from-run-4 : tie.Need-element-set-from-run-4 Inv-loop2 μ-loop2 Inv-loop μ-loop
-element-set-from-run-4 c = request-places (c .before .before .before .before .before .before .before .before .before .before .before .before .before .before .before .before .before .before .before .before .before .before .before .before .before .before .before .before .before .before .before .before .before .loop .run) ((c .before .before .before .before .before .before .before .before .before .before .before .before .before .before .before .before .before .before .before .before .before .before .before .before .before .before .before .before .before .before .before .before .before .loop .inv .sound)) _ _ (c .before .before .before .before .before .before .before .before .before .before .before .before .before .before .before .before .before .before .before .before .before .before .held .given .1) .1
+element-set-from-run-4 c =
+    let h = c .before .before .before .before .before .before .before .before .before .before .before .before .before .before .before .before .before .before .before .before .before .before .before .before .before .before .before .before in
+    request-places (held h) (sound h) _ _ (c .before .before .before .before .before .before .before .before .before .before .before .before .before .before .before .before .before .before .before .before .before .before .held .given .1) .1
 
 loop-less-12 : tie.Need-loop-less-12 Inv-loop2 μ-loop2 Inv-loop μ-loop
-loop-less-12 c = omega (arith, (c .before .before .before .before .before .before .before .before .before .before .before .before .before .before .before .before .before .before .before .before .before .before .before .before .before .before .before .before .before .before .if1 .left), (c .before .before .before .before .before .before .before .before .before .before .before .before .before .before .before .before .before .before .before .before .before .before .before .before .before .before .before .before .before .before .before .before .find .ensures .0 .1))
+loop-less-12 c =
+    shorter (c .before .before .before .before .before .before .before .before .before .before .before .before .before .before .before .before .before .before .before .before .before .before .before .before .before .before .before .before)
 
 loop-again-12 : tie.Need-loop-again-12 Inv-loop2 μ-loop2 Inv-loop μ-loop
 unfolding deedOf
-loop-again-12 c = taking-next (c .before .before .before .before .before .before .before .before .before .before .before .before .before .before .before .before .before .before .before .before .before .before .before .before .before .before .before .before .before .before .before .before .before .before .before .before .args .s .now) (c .before .before .before .before .before .before .before .before .before .before .before .before .before .before .before .before .before .before .before .before .before .before .before .before .before .before .before .before .before .before .before .before .before .loop .i) ((c .before .before .before .before .before .before .before .before .before .before .before .before .before .before .before .before .before .before .before .before .before .before .before .before .before .before .before .before .before .before .before .before .find .result) .end) ((c .before .before .before .before .before .before .before .before .before .before .before .before .before .before .before .before .before .before .before .before .before .before .before .before .before .before .before .before .before .before .before .before .find .result) .step) (c .before .before .before .before .before .before .before .before .before .before .before .before .before .before .before .before .before .before .before .before .before .before .before .before .before .before .before .before .before .before .if1 .left) ((c .before .before .before .before .before .before .before .before .before .before .before .before .before .before .before .before .before .before .before .before .before .before .before .before .before .before .before .before .before .before .before .before .find .ensures .0 .1)) ((c .before .before .before .before .before .before .before .before .before .before .before .before .before .before .before .before .before .before .before .before .before .before .before .before .before .before .before .before .before .before .before .before .find .ensures .1 .1) (c .before .before .before .before .before .before .before .before .before .before .before .before .before .before .before .before .before .before .before .before .before .before .before .before .before .before .before .before .before .before .if1 .left)) (c .before .before .before .before .before .before .before .before .before .before .before .before .before .before .before .before .before .before .before .before .before .before .before .before .before .before .before .before .before .before .before .before .before .before .before .before .args .at) (c .before .before .before .before .before .before .before .before .before .before .before .before .before .before .before .before .before .before .before .before .before .before .before .before .before .before .before .before .before .before .before .before .before .before .before .before .args .row) (c .before .before .before .before .before .before .before .before .before .before .before .before .before .before .before .before .before .before .before .before .before .before .before .before .before .before .before .before .before .before .before .before .before .before .before .before .args .t5) (c .before .before .before .before .before .before .before .before .before .before .before .before .before .before .before .before .before .before .before .before .before .before .before .before .before .before .before .before .before .before .before .before .before .before .before .before .args .out .now) (c .before .before .before .before .before .before .before .before .before .before .before .before .before .before .before .before .before .before .before .before .before .before .before .before .before .before .before .before .before .before .before .before .before .loop .out) (c .before .before .before .before .before .before .before .before .before .before .before .before .before .before .before .before .before .before .before .before .before .before .before .before .before .before .before .before .before .before .before .before .before .loop .o) (c .before .before .before .before .before .before .before .before .before .before .before .before .before .before .before .before .before .before .before .before .before .before .before .before .before .before .before .before .before .before .before .before .before .loop .n) (c .before .before .before .before .before .before .before .before .before .before .before .before .before .before .before .before .before .before .before .before .before .before .before .before .before .before .before .before .before .before .before .before .before .loop .run) (c .before .before .before .before .before .before .before .before .before .before .before .before .before .before .before .before .before .before .before .before .before .before .before .before .before .before .before .before .before .before .before .before .before .loop .inv) _ _ _ (sym (turn (c .before .before .before .before .before .before .before .before .before .before .before .before .before .before .before .before .before .before .before .before .before .before .before .before .before .before .before .before .before .before .before .before .before .loop .run) ((c .before .before .before .before .before .before .before .before .before .before .before .before .before .before .before .before .before .before .before .before .before .before .before .before .before .before .before .before .before .before .before .before .find .result) .step) ((c .before .before .before .before .before .before .before .before .before .before .before .before .before .before .before .before .before .before .before .before .before .before .before .before .before .before .before .before .before .before .before .before .before .loop .inv .sound)) (c .before .before .before .before .before .before .before .before .before .before .before .before .before .before .before .before .before .before .before .before .before .before .before .before .before .before .before .before .admit .result) _ (c .before .before .before .before .before .before .before .before .before .before .before .before .before .before .before .before .before .before .before .before .before .before .before .before .before .before .before .before .admit .ensures) (c .before .before .before .before .before .before .before .before .before .before .before .before .before .before .before .before .before .before .before .before .before .before .before .before .before .before .j .given .1) _ (decide-request (c .before .before .before .before .before .before .before .before .before .before .before .before .before .before .before .before .before .before .before .before .before .before .before .before .before .before .before .before .before .before .before .before .before .loop .run) _ _ (c .before .before .before .before .before .before .before .before .before .before .before .before .before .before .before .before .before .before .before .before .before .before .held .given .1) ∙ ap (answersOf ((c .before .before .before .before .before .before .before .before .before .before .before .before .before .before .before .before .before .before .before .before .before .before .before .before .before .before .j .given .0 .0)) ((c .before .before .before .before .before .before .before .before .before .before .before .before .before .before .before .before .before .before .before .before .before .before .held .given .0 .0))) (sym (c .before .before .before .before .before .before .before .before .before .before .before .before .before .before .before .before .before .before .sight .ensures)) ∙ (c .before .before .before .before .before .before .before .before .before .before .before .before .before .before .before .before .before .answer .ensures) ((c .before .before .before .before .before .before .before .before .before .before .before .before .before .before .before .before .before .before .before .before .before .before .before .before .before .before .j .given .0 .0)) ∙ ap (backAs ((c .before .before .before .before .before .before .before .before .before .before .before .before .before .before .before .before .before .before .before .before .before .before .before .before .before .before .j .given .0 .0)) ((c .before .before .before .before .before .before .before .before .before .before .before .before .before .before .before .before .before .before .before .before .before .before .held .given .0 .0))) (c .before .before .before .before .before .before .before .before .before .before .before .before .before .before .before .e .given .1) ∙ ap (λ (t : Slot). Yes (Answered (((c .before .before .before .before .before .before .before .before .before .before .before .before .before .before .before .before .before .before .before .before .before .before .before .before .before .before .j .given .0 .0)) + 1)) (Offering (((c .before .before .before .before .before .before .before .before .before .before .before .before .before .before .before .before .before .before .before .before .before .before .held .given .0 .0)) .cabinet) ((c .before .before .before .before .before .before .before .before .before .before .before .before .before .before .before .e .given .0 .0)) ((c .before .before .before .before .before .before .before .before .before .before .before .before .before .before .before .before .before .before .before .before .before .before .before .before .before .before .j .given .0 .0)) t)) (sym (c .before .before .before .before .before .before .before .before .before .before .before .before .before .reply2 .ensures))) ∙ sym (offering-put (c .before .before .before .before .before .before .before .before .before .before .before .before .before .before .before .before .before .before .before .before .before .before .before .before .before .before .before .before .before .before .before .before .before .loop .run) (Answered (((c .before .before .before .before .before .before .before .before .before .before .before .before .before .before .before .before .before .before .before .before .before .before .before .before .before .before .j .given .0 .0)) + 1)) (((c .before .before .before .before .before .before .before .before .before .before .before .before .before .before .before .before .before .before .before .before .before .before .held .given .0 .0)) .cabinet) (c .before .offer .result) ((c .before .before .before .before .before .before .before .before .before .before .before .before .before .before .before .e .given .0 .0)) ((c .before .before .before .before .before .before .before .before .before .before .before .before .before .before .before .before .before .before .before .before .before .before .before .before .before .before .j .given .0 .0)) (c .before .before .before .before .before .before .before .before .before .before .before .before .before .reply2 .result) (c .before .offer .ensures)))) ((c .before .before .before .before .before .before .before .before .before .before .before .put-answered2 .ensures .0)) ((c .before .before .before .before .before .before .before .before .before .before .before .put-answered2 .ensures .1))
+loop-again-12 c =
+    let h = c .before .before .before .before .before .before .before .before .before .before .before .before .before .before .before .before .before .before .before .before .before .before .before .before .before .before .before .before in
+    next h _ _ _
+    (admitted h _ (c .before .before .before .before .before .before .before .before .before .before .before .before .before .before .before .before .before .before .before .before .before .before .before .before .before .before .j .given .1) _
+    (decide-request (held h) _ _ (c .before .before .before .before .before .before .before .before .before .before .before .before .before .before .before .before .before .before .before .before .before .before .held .given .1)
+    ∙ ap (answersOf (c .before .before .before .before .before .before .before .before .before .before .before .before .before .before .before .before .before .before .before .before .before .before .before .before .before .before .j .given .0 .0) (c .before .before .before .before .before .before .before .before .before .before .before .before .before .before .before .before .before .before .before .before .before .before .held .given .0 .0)) (sym (c .before .before .before .before .before .before .before .before .before .before .before .before .before .before .before .before .before .before .sight .ensures))
+    ∙ (c .before .before .before .before .before .before .before .before .before .before .before .before .before .before .before .before .before .answer .ensures) (c .before .before .before .before .before .before .before .before .before .before .before .before .before .before .before .before .before .before .before .before .before .before .before .before .before .before .j .given .0 .0)
+    ∙ ap (backAs (c .before .before .before .before .before .before .before .before .before .before .before .before .before .before .before .before .before .before .before .before .before .before .before .before .before .before .j .given .0 .0) (c .before .before .before .before .before .before .before .before .before .before .before .before .before .before .before .before .before .before .before .before .before .before .held .given .0 .0)) (c .before .before .before .before .before .before .before .before .before .before .before .before .before .before .before .e .given .1)
+    ∙ ap (λ (t : Slot). Yes (Answered ((c .before .before .before .before .before .before .before .before .before .before .before .before .before .before .before .before .before .before .before .before .before .before .before .before .before .before .j .given .0 .0) + 1)) (Offering ((c .before .before .before .before .before .before .before .before .before .before .before .before .before .before .before .before .before .before .before .before .before .before .held .given .0 .0) .cabinet) (c .before .before .before .before .before .before .before .before .before .before .before .before .before .before .before .e .given .0 .0) (c .before .before .before .before .before .before .before .before .before .before .before .before .before .before .before .before .before .before .before .before .before .before .before .before .before .before .j .given .0 .0) t)) (sym (c .before .before .before .before .before .before .before .before .before .before .before .before .before .reply2 .ensures)))
+    ∙ sym (offering-put (held h) (Answered ((c .before .before .before .before .before .before .before .before .before .before .before .before .before .before .before .before .before .before .before .before .before .before .before .before .before .before .j .given .0 .0) + 1)) ((c .before .before .before .before .before .before .before .before .before .before .before .before .before .before .before .before .before .before .before .before .before .before .held .given .0 .0) .cabinet) (c .before .offer .result) (c .before .before .before .before .before .before .before .before .before .before .before .before .before .before .before .e .given .0 .0) (c .before .before .before .before .before .before .before .before .before .before .before .before .before .before .before .before .before .before .before .before .before .before .before .before .before .before .j .given .0 .0) (c .before .before .before .before .before .before .before .before .before .before .before .before .before .reply2 .result) (c .before .offer .ensures)))
+    (c .before .before .before .before .before .before .before .before .before .before .before .put-answered2 .ensures .0)
+    (c .before .before .before .before .before .before .before .before .before .before .before .put-answered2 .ensures .1)
 
 loop-less-13 : tie.Need-loop-less-13 Inv-loop2 μ-loop2 Inv-loop μ-loop
-loop-less-13 c = omega (arith, (c .before .before .before .before .before .before .before .before .before .before .before .before .before .before .before .before .before .before .before .before .before .before .before .before .if1 .left), (c .before .before .before .before .before .before .before .before .before .before .before .before .before .before .before .before .before .before .before .before .before .before .before .before .before .before .find .ensures .0 .1))
+loop-less-13 c =
+    shorter (c .before .before .before .before .before .before .before .before .before .before .before .before .before .before .before .before .before .before .before .before .before .before)
 
 loop-again-13 : tie.Need-loop-again-13 Inv-loop2 μ-loop2 Inv-loop μ-loop
-loop-again-13 c = taking-next (c .before .before .before .before .before .before .before .before .before .before .before .before .before .before .before .before .before .before .before .before .before .before .before .before .before .before .before .before .before .before .args .s .now) (c .before .before .before .before .before .before .before .before .before .before .before .before .before .before .before .before .before .before .before .before .before .before .before .before .before .before .before .loop .i) ((c .before .before .before .before .before .before .before .before .before .before .before .before .before .before .before .before .before .before .before .before .before .before .before .before .before .before .find .result) .end) ((c .before .before .before .before .before .before .before .before .before .before .before .before .before .before .before .before .before .before .before .before .before .before .before .before .before .before .find .result) .step) (c .before .before .before .before .before .before .before .before .before .before .before .before .before .before .before .before .before .before .before .before .before .before .before .before .if1 .left) ((c .before .before .before .before .before .before .before .before .before .before .before .before .before .before .before .before .before .before .before .before .before .before .before .before .before .before .find .ensures .0 .1)) ((c .before .before .before .before .before .before .before .before .before .before .before .before .before .before .before .before .before .before .before .before .before .before .before .before .before .before .find .ensures .1 .1) (c .before .before .before .before .before .before .before .before .before .before .before .before .before .before .before .before .before .before .before .before .before .before .before .before .if1 .left)) (c .before .before .before .before .before .before .before .before .before .before .before .before .before .before .before .before .before .before .before .before .before .before .before .before .before .before .before .before .before .before .args .at) (c .before .before .before .before .before .before .before .before .before .before .before .before .before .before .before .before .before .before .before .before .before .before .before .before .before .before .before .before .before .before .args .row) (c .before .before .before .before .before .before .before .before .before .before .before .before .before .before .before .before .before .before .before .before .before .before .before .before .before .before .before .before .before .before .args .t5) (c .before .before .before .before .before .before .before .before .before .before .before .before .before .before .before .before .before .before .before .before .before .before .before .before .before .before .before .before .before .before .args .out .now) (c .before .before .before .before .before .before .before .before .before .before .before .before .before .before .before .before .before .before .before .before .before .before .before .before .before .before .before .loop .out) (c .before .before .before .before .before .before .before .before .before .before .before .before .before .before .before .before .before .before .before .before .before .before .before .before .before .before .before .loop .o) (c .before .before .before .before .before .before .before .before .before .before .before .before .before .before .before .before .before .before .before .before .before .before .before .before .before .before .before .loop .n) (c .before .before .before .before .before .before .before .before .before .before .before .before .before .before .before .before .before .before .before .before .before .before .before .before .before .before .before .loop .run) (c .before .before .before .before .before .before .before .before .before .before .before .before .before .before .before .before .before .before .before .before .before .before .before .before .before .before .before .loop .inv) _ _ _ (sym (turn (c .before .before .before .before .before .before .before .before .before .before .before .before .before .before .before .before .before .before .before .before .before .before .before .before .before .before .before .loop .run) ((c .before .before .before .before .before .before .before .before .before .before .before .before .before .before .before .before .before .before .before .before .before .before .before .before .before .before .find .result) .step) ((c .before .before .before .before .before .before .before .before .before .before .before .before .before .before .before .before .before .before .before .before .before .before .before .before .before .before .before .loop .inv .sound)) (c .before .before .before .before .before .before .before .before .before .before .before .before .before .before .before .before .before .before .before .before .before .before .admit .result) _ (c .before .before .before .before .before .before .before .before .before .before .before .before .before .before .before .before .before .before .before .before .before .before .admit .ensures) (c .before .before .before .before .before .before .before .before .before .before .before .before .before .before .before .before .before .before .before .before .j .given .1) _ (decide-request (c .before .before .before .before .before .before .before .before .before .before .before .before .before .before .before .before .before .before .before .before .before .before .before .before .before .before .before .loop .run) _ _ (c .before .before .before .before .before .before .before .before .before .before .before .before .before .before .before .before .held .given .1) ∙ ap (answersOf ((c .before .before .before .before .before .before .before .before .before .before .before .before .before .before .before .before .before .before .before .before .j .given .0 .0)) ((c .before .before .before .before .before .before .before .before .before .before .before .before .before .before .before .before .held .given .0 .0))) (sym (c .before .before .before .before .before .before .before .before .before .before .before .before .sight .ensures)) ∙ (c .before .before .before .before .before .before .before .before .before .before .before .answer .ensures) ((c .before .before .before .before .before .before .before .before .before .before .before .before .before .before .before .before .before .before .before .before .j .given .0 .0)) ∙ ap (backAs ((c .before .before .before .before .before .before .before .before .before .before .before .before .before .before .before .before .before .before .before .before .j .given .0 .0)) ((c .before .before .before .before .before .before .before .before .before .before .before .before .before .before .before .before .held .given .0 .0))) (c .before .before .before .before .before .before .before .before .before .e .given .1) ∙ ap (λ (t : Slot). Yes (Answered (((c .before .before .before .before .before .before .before .before .before .before .before .before .before .before .before .before .before .before .before .before .j .given .0 .0)) + 1)) (Offering (((c .before .before .before .before .before .before .before .before .before .before .before .before .before .before .before .before .held .given .0 .0)) .cabinet) ((c .before .before .before .before .before .before .before .before .before .e .given .0 .0)) ((c .before .before .before .before .before .before .before .before .before .before .before .before .before .before .before .before .before .before .before .before .j .given .0 .0)) t)) (sym (c .before .before .before .before .before .before .before .reply2 .ensures))) ∙ sym (kept-put (c .before .before .before .before .before .before .before .before .before .before .before .before .before .before .before .before .before .before .before .before .before .before .before .before .before .before .before .loop .run) (Answered (((c .before .before .before .before .before .before .before .before .before .before .before .before .before .before .before .before .before .before .before .before .j .given .0 .0)) + 1)) (((c .before .before .before .before .before .before .before .before .before .before .before .before .before .before .before .before .held .given .0 .0)) .cabinet) ((c .before .before .before .before .before .before .before .before .before .e .given .0 .0)) ((c .before .before .before .before .before .before .before .before .before .before .before .before .before .before .before .before .before .before .before .before .j .given .0 .0)) (c .before .before .before .before .before .before .before .reply2 .result) (ap (λ (z : Sight). takes (z .present) ((c .before .before .before .before .before .before .before .before .before .e .given .0 .0))) (sym (c .before .before .before .before .before .before .before .before .before .before .before .before .sight .ensures)) ∙ sym (c .before .takes .ensures) ∙ (c .if4 .left))))) ((c .before .before .before .before .before .put-answered2 .ensures .0)) ((c .before .before .before .before .before .put-answered2 .ensures .1))
+loop-again-13 c =
+    let h = c .before .before .before .before .before .before .before .before .before .before .before .before .before .before .before .before .before .before .before .before .before .before in
+    next h _ _ _
+    (admitted h _ (c .before .before .before .before .before .before .before .before .before .before .before .before .before .before .before .before .before .before .before .before .j .given .1) _
+    (decide-request (held h) _ _ (c .before .before .before .before .before .before .before .before .before .before .before .before .before .before .before .before .held .given .1)
+    ∙ ap (answersOf (c .before .before .before .before .before .before .before .before .before .before .before .before .before .before .before .before .before .before .before .before .j .given .0 .0) (c .before .before .before .before .before .before .before .before .before .before .before .before .before .before .before .before .held .given .0 .0)) (sym (c .before .before .before .before .before .before .before .before .before .before .before .before .sight .ensures))
+    ∙ (c .before .before .before .before .before .before .before .before .before .before .before .answer .ensures) (c .before .before .before .before .before .before .before .before .before .before .before .before .before .before .before .before .before .before .before .before .j .given .0 .0)
+    ∙ ap (backAs (c .before .before .before .before .before .before .before .before .before .before .before .before .before .before .before .before .before .before .before .before .j .given .0 .0) (c .before .before .before .before .before .before .before .before .before .before .before .before .before .before .before .before .held .given .0 .0)) (c .before .before .before .before .before .before .before .before .before .e .given .1)
+    ∙ ap (λ (t : Slot). Yes (Answered ((c .before .before .before .before .before .before .before .before .before .before .before .before .before .before .before .before .before .before .before .before .j .given .0 .0) + 1)) (Offering ((c .before .before .before .before .before .before .before .before .before .before .before .before .before .before .before .before .held .given .0 .0) .cabinet) (c .before .before .before .before .before .before .before .before .before .e .given .0 .0) (c .before .before .before .before .before .before .before .before .before .before .before .before .before .before .before .before .before .before .before .before .j .given .0 .0) t)) (sym (c .before .before .before .before .before .before .before .reply2 .ensures)))
+    ∙ sym (kept-put (held h) (Answered ((c .before .before .before .before .before .before .before .before .before .before .before .before .before .before .before .before .before .before .before .before .j .given .0 .0) + 1)) ((c .before .before .before .before .before .before .before .before .before .before .before .before .before .before .before .before .held .given .0 .0) .cabinet) (c .before .before .before .before .before .before .before .before .before .e .given .0 .0) (c .before .before .before .before .before .before .before .before .before .before .before .before .before .before .before .before .before .before .before .before .j .given .0 .0) (c .before .before .before .before .before .before .before .reply2 .result) (ap (λ (z : Sight). takes (z .present) (c .before .before .before .before .before .before .before .before .before .e .given .0 .0)) (sym (c .before .before .before .before .before .before .before .before .before .before .before .before .sight .ensures)) ∙ sym (c .before .takes .ensures) ∙ (c .if4 .left))))
+    (c .before .before .before .before .before .put-answered2 .ensures .0)
+    (c .before .before .before .before .before .put-answered2 .ensures .1)
 
 enum-known-held-2 : tie.Need-enum-known-held-2 Inv-loop2 μ-loop2 Inv-loop μ-loop
 enum-known-held-2 c = search needs
@@ -431,7 +656,9 @@ mul-client-4 : tie.Need-mul-client-4 Inv-loop2 μ-loop2 Inv-loop μ-loop
 mul-client-4 c = search needs
 
 element-copy-out-client-4 : tie.Need-element-copy-out-client-4 Inv-loop2 μ-loop2 Inv-loop μ-loop
-element-copy-out-client-4 c = reply-places (c .before .before .before .before .before .before .before .before .before .before .before .before .before .loop .run) ((c .before .before .before .before .before .before .before .before .before .before .before .before .before .loop .inv .sound)) _ _ (c .before .before .held2 .given .1) .0
+element-copy-out-client-4 c =
+    let h = c .before .before .before .before .before .before .before .before in
+    reply-places (held h) (sound h) _ _ (c .before .before .held2 .given .1) .0
 
 cast-t177 : tie.Need-cast-t177 Inv-loop2 μ-loop2 Inv-loop μ-loop
 cast-t177 c = search needs
@@ -440,29 +667,44 @@ mul-t178 : tie.Need-mul-t178 Inv-loop2 μ-loop2 Inv-loop μ-loop
 mul-t178 c = search needs
 
 element-set-from-run-5 : tie.Need-element-set-from-run-5 Inv-loop2 μ-loop2 Inv-loop μ-loop
-element-set-from-run-5 c = delivers-place (c .before .before .before .before .before .before .before .before .before .before .before .before .before .before .loop .run) ((c .before .before .before .before .before .before .before .before .before .before .before .before .before .find .result) .step) ((c .before .before .before .before .before .before .before .before .before .before .before .before .before .before .loop .inv .sound)) _ (sym (c .before .before .before .before .before .before .before .j .given .1) ∙ (c .before .before .before .before .before .before .before .before .before .admit .ensures))
+element-set-from-run-5 c =
+    let h = c .before .before .before .before .before .before .before .before .before in
+    delivers-place (held h) (asks h) (sound h) _ (sym (c .before .before .before .before .before .before .before .j .given .1) ∙ h .admit .ensures)
 
 add-run-5 : tie.Need-add-run-5 Inv-loop2 μ-loop2 Inv-loop μ-loop
-add-run-5 c = omega (arith, steps-most (c .before .before .before .before .before .before .before .before .before .before .before .before .before .before .loop .run) ((c .before .before .before .before .before .before .before .before .before .before .before .before .before .before .loop .inv .sound)))
+add-run-5 c = let h = c .before .before .before .before .before .before .before .before .before in omega (arith, steps-most (held h) (sound h))
 
 hear-requires : tie.Need-hear-requires Inv-loop2 μ-loop2 Inv-loop μ-loop
-hear-requires c κs = (reply-places (c .before .before .before .before .before .before .before .before .before .before .before .before .before .before .loop .run) ((c .before .before .before .before .before .before .before .before .before .before .before .before .before .before .loop .inv .sound)) _ _ (c .before .before .before .held2 .given .1) .0, client-best (c .before .before .before .before .before .before .before .before .before .before .before .before .before .before .loop .run) ((c .before .before .before .before .before .before .before .before .before .before .before .before .before .before .loop .inv .sound)) _, reply-told (c .before .before .before .before .before .before .before .before .before .before .before .before .before .before .loop .run) ((c .before .before .before .before .before .before .before .before .before .before .before .before .before .before .loop .inv .sound)) _ _ (c .before .before .before .held2 .given .1))
+hear-requires c κs =
+    let h = c .before .before .before .before .before .before .before .before .before in
+    (reply-places (held h) (sound h) _ _ (c .before .before .before .held2 .given .1) .0, client-best (held h) (sound h) _, reply-told (held h) (sound h) _ _ (c .before .before .before .held2 .given .1))
 
 enum-told-3 : tie.Need-enum-told-3 Inv-loop2 μ-loop2 Inv-loop μ-loop
 enum-told-3 c = search needs
 
 add-put-discarded : tie.Need-add-put-discarded Inv-loop2 μ-loop2 Inv-loop μ-loop
-add-put-discarded c = omega (arith, delivers-place (c .before .before .before .before .before .before .before .before .before .before .before .before .before .before .before .before .before .before .loop .run) ((c .before .before .before .before .before .before .before .before .before .before .before .before .before .before .before .before .before .find .result) .step) ((c .before .before .before .before .before .before .before .before .before .before .before .before .before .before .before .before .before .before .loop .inv .sound)) _ (sym (c .before .before .before .before .before .before .before .before .before .before .before .j .given .1) ∙ (c .before .before .before .before .before .before .before .before .before .before .before .before .before .admit .ensures)))
+add-put-discarded c =
+    let h = c .before .before .before .before .before .before .before .before .before .before .before .before .before in
+    omega (arith, delivers-place (held h) (asks h) (sound h) _ (sym (c .before .before .before .before .before .before .before .before .before .before .before .j .given .1) ∙ h .admit .ensures))
 
 put-discarded-requires : tie.Need-put-discarded-requires Inv-loop2 μ-loop2 Inv-loop μ-loop
-put-discarded-requires c κs = taking-room (c .before .before .before .before .before .before .before .before .before .before .before .before .before .before .before .before .before .before .before .before .before .args .s .now) (c .before .before .before .before .before .before .before .before .before .before .before .before .before .before .before .before .before .before .loop .i) ((c .before .before .before .before .before .before .before .before .before .before .before .before .before .before .before .before .before .find .result) .end) ((c .before .before .before .before .before .before .before .before .before .before .before .before .before .before .before .before .before .find .result) .step) (c .before .before .before .before .before .before .before .before .before .before .before .before .before .before .before .if1 .left) ((c .before .before .before .before .before .before .before .before .before .before .before .before .before .before .before .before .before .find .ensures .0 .1)) ((c .before .before .before .before .before .before .before .before .before .before .before .before .before .before .before .before .before .find .ensures .1 .1) (c .before .before .before .before .before .before .before .before .before .before .before .before .before .before .before .if1 .left)) (c .before .before .before .before .before .before .before .before .before .before .before .before .before .before .before .before .before .before .before .before .before .args .at) (c .before .before .before .before .before .before .before .before .before .before .before .before .before .before .before .before .before .before .before .before .before .args .row) (c .before .before .before .before .before .before .before .before .before .before .before .before .before .before .before .before .before .before .before .before .before .args .t5) (c .before .before .before .before .before .before .before .before .before .before .before .before .before .before .before .before .before .before .before .before .before .args .out .now) (c .before .before .before .before .before .before .before .before .before .before .before .before .before .before .before .before .before .before .loop .out) (c .before .before .before .before .before .before .before .before .before .before .before .before .before .before .before .before .before .before .loop .o) (c .before .before .before .before .before .before .before .before .before .before .before .before .before .before .before .before .before .before .loop .n) (c .before .before .before .before .before .before .before .before .before .before .before .before .before .before .before .before .before .before .loop .run) (c .before .before .before .before .before .before .before .before .before .before .before .before .before .before .before .before .before .before .loop .inv)
+put-discarded-requires c κs = room (c .before .before .before .before .before .before .before .before .before .before .before .before .before)
 
 loop-less-14 : tie.Need-loop-less-14 Inv-loop2 μ-loop2 Inv-loop μ-loop
-loop-less-14 c = omega (arith, (c .before .before .before .before .before .before .before .before .before .before .before .before .before .before .before .before .before .before .if1 .left), (c .before .before .before .before .before .before .before .before .before .before .before .before .before .before .before .before .before .before .before .before .find .ensures .0 .1))
+loop-less-14 c =
+    shorter (c .before .before .before .before .before .before .before .before .before .before .before .before .before .before .before .before)
 
 loop-again-14 : tie.Need-loop-again-14 Inv-loop2 μ-loop2 Inv-loop μ-loop
 unfolding changed
-loop-again-14 c = taking-next (c .before .before .before .before .before .before .before .before .before .before .before .before .before .before .before .before .before .before .before .before .before .before .before .before .args .s .now) (c .before .before .before .before .before .before .before .before .before .before .before .before .before .before .before .before .before .before .before .before .before .loop .i) ((c .before .before .before .before .before .before .before .before .before .before .before .before .before .before .before .before .before .before .before .before .find .result) .end) ((c .before .before .before .before .before .before .before .before .before .before .before .before .before .before .before .before .before .before .before .before .find .result) .step) (c .before .before .before .before .before .before .before .before .before .before .before .before .before .before .before .before .before .before .if1 .left) ((c .before .before .before .before .before .before .before .before .before .before .before .before .before .before .before .before .before .before .before .before .find .ensures .0 .1)) ((c .before .before .before .before .before .before .before .before .before .before .before .before .before .before .before .before .before .before .before .before .find .ensures .1 .1) (c .before .before .before .before .before .before .before .before .before .before .before .before .before .before .before .before .before .before .if1 .left)) (c .before .before .before .before .before .before .before .before .before .before .before .before .before .before .before .before .before .before .before .before .before .before .before .before .args .at) (c .before .before .before .before .before .before .before .before .before .before .before .before .before .before .before .before .before .before .before .before .before .before .before .before .args .row) (c .before .before .before .before .before .before .before .before .before .before .before .before .before .before .before .before .before .before .before .before .before .before .before .before .args .t5) (c .before .before .before .before .before .before .before .before .before .before .before .before .before .before .before .before .before .before .before .before .before .before .before .before .args .out .now) (c .before .before .before .before .before .before .before .before .before .before .before .before .before .before .before .before .before .before .before .before .before .loop .out) (c .before .before .before .before .before .before .before .before .before .before .before .before .before .before .before .before .before .before .before .before .before .loop .o) (c .before .before .before .before .before .before .before .before .before .before .before .before .before .before .before .before .before .before .before .before .before .loop .n) (c .before .before .before .before .before .before .before .before .before .before .before .before .before .before .before .before .before .before .before .before .before .loop .run) (c .before .before .before .before .before .before .before .before .before .before .before .before .before .before .before .before .before .before .before .before .before .loop .inv) _ _ _ (sym (turn (c .before .before .before .before .before .before .before .before .before .before .before .before .before .before .before .before .before .before .before .before .before .loop .run) ((c .before .before .before .before .before .before .before .before .before .before .before .before .before .before .before .before .before .before .before .before .find .result) .step) ((c .before .before .before .before .before .before .before .before .before .before .before .before .before .before .before .before .before .before .before .before .before .loop .inv .sound)) (c .before .before .before .before .before .before .before .before .before .before .before .before .before .before .before .before .admit .result) _ (c .before .before .before .before .before .before .before .before .before .before .before .before .before .before .before .before .admit .ensures) (c .before .before .before .before .before .before .before .before .before .before .before .before .before .before .j .given .1) _ (decide-reply (c .before .before .before .before .before .before .before .before .before .before .before .before .before .before .before .before .before .before .before .before .before .loop .run) _ _ (c .before .before .before .before .before .before .before .before .before .before .held2 .given .1) ∙ (c .before .before .before .before .before .before .hear .ensures) ((c .before .before .before .before .before .before .before .before .before .before .before .before .before .before .j .given .0 .0)) ∙ ap (hearsAs (((c .before .before .before .before .before .before .before .before .before .before .held2 .given .0 .0)) .client) ((c .before .before .before .before .before .before .before .before .before .before .before .before .before .before .j .given .0 .0))) (c .before .before .before .before .enum-told3 .given .1)))) ((c .before .before .put-discarded .ensures .0)) ((c .before .before .put-discarded .ensures .1))
+loop-again-14 c =
+    let h = c .before .before .before .before .before .before .before .before .before .before .before .before .before .before .before .before in
+    next h _ _ _
+    (admitted h _ (c .before .before .before .before .before .before .before .before .before .before .before .before .before .before .j .given .1) _
+    (decide-reply (held h) _ _ (c .before .before .before .before .before .before .before .before .before .before .held2 .given .1)
+    ∙ (c .before .before .before .before .before .before .hear .ensures) (c .before .before .before .before .before .before .before .before .before .before .before .before .before .before .j .given .0 .0)
+    ∙ ap (hearsAs ((c .before .before .before .before .before .before .before .before .before .before .held2 .given .0 .0) .client) (c .before .before .before .before .before .before .before .before .before .before .before .before .before .before .j .given .0 .0)) (c .before .before .before .before .enum-told3 .given .1)))
+    (c .before .before .put-discarded .ensures .0)
+    (c .before .before .put-discarded .ensures .1)
 
 enum-known-next-3 : tie.Need-enum-known-next-3 Inv-loop2 μ-loop2 Inv-loop μ-loop
 enum-known-next-3 c = search needs
@@ -474,20 +716,34 @@ mul-next-3 : tie.Need-mul-next-3 Inv-loop2 μ-loop2 Inv-loop μ-loop
 mul-next-3 c = search needs
 
 element-set-from-next-3 : tie.Need-element-set-from-next-3 Inv-loop2 μ-loop2 Inv-loop μ-loop
-element-set-from-next-3 c = reply-places (c .before .before .before .before .before .before .before .before .before .before .before .before .before .before .before .before .before .before .before .loop .run) ((c .before .before .before .before .before .before .before .before .before .before .before .before .before .before .before .before .before .before .before .loop .inv .sound)) _ _ (c .before .before .before .before .before .before .before .before .held2 .given .1) .0
+element-set-from-next-3 c =
+    let h = c .before .before .before .before .before .before .before .before .before .before .before .before .before .before in
+    reply-places (held h) (sound h) _ _ (c .before .before .before .before .before .before .before .before .held2 .given .1) .0
 
 add-put-counted : tie.Need-add-put-counted Inv-loop2 μ-loop2 Inv-loop μ-loop
-add-put-counted c = omega (arith, delivers-place (c .before .before .before .before .before .before .before .before .before .before .before .before .before .before .before .before .before .before .before .before .loop .run) ((c .before .before .before .before .before .before .before .before .before .before .before .before .before .before .before .before .before .before .before .find .result) .step) ((c .before .before .before .before .before .before .before .before .before .before .before .before .before .before .before .before .before .before .before .before .loop .inv .sound)) _ (sym (c .before .before .before .before .before .before .before .before .before .before .before .before .before .j .given .1) ∙ (c .before .before .before .before .before .before .before .before .before .before .before .before .before .before .before .admit .ensures)))
+add-put-counted c =
+    let h = c .before .before .before .before .before .before .before .before .before .before .before .before .before .before .before in
+    omega (arith, delivers-place (held h) (asks h) (sound h) _ (sym (c .before .before .before .before .before .before .before .before .before .before .before .before .before .j .given .1) ∙ h .admit .ensures))
 
 put-counted-requires : tie.Need-put-counted-requires Inv-loop2 μ-loop2 Inv-loop μ-loop
-put-counted-requires c κs = taking-room (c .before .before .before .before .before .before .before .before .before .before .before .before .before .before .before .before .before .before .before .before .before .before .before .args .s .now) (c .before .before .before .before .before .before .before .before .before .before .before .before .before .before .before .before .before .before .before .before .loop .i) ((c .before .before .before .before .before .before .before .before .before .before .before .before .before .before .before .before .before .before .before .find .result) .end) ((c .before .before .before .before .before .before .before .before .before .before .before .before .before .before .before .before .before .before .before .find .result) .step) (c .before .before .before .before .before .before .before .before .before .before .before .before .before .before .before .before .before .if1 .left) ((c .before .before .before .before .before .before .before .before .before .before .before .before .before .before .before .before .before .before .before .find .ensures .0 .1)) ((c .before .before .before .before .before .before .before .before .before .before .before .before .before .before .before .before .before .before .before .find .ensures .1 .1) (c .before .before .before .before .before .before .before .before .before .before .before .before .before .before .before .before .before .if1 .left)) (c .before .before .before .before .before .before .before .before .before .before .before .before .before .before .before .before .before .before .before .before .before .before .before .args .at) (c .before .before .before .before .before .before .before .before .before .before .before .before .before .before .before .before .before .before .before .before .before .before .before .args .row) (c .before .before .before .before .before .before .before .before .before .before .before .before .before .before .before .before .before .before .before .before .before .before .before .args .t5) (c .before .before .before .before .before .before .before .before .before .before .before .before .before .before .before .before .before .before .before .before .before .before .before .args .out .now) (c .before .before .before .before .before .before .before .before .before .before .before .before .before .before .before .before .before .before .before .before .loop .out) (c .before .before .before .before .before .before .before .before .before .before .before .before .before .before .before .before .before .before .before .before .loop .o) (c .before .before .before .before .before .before .before .before .before .before .before .before .before .before .before .before .before .before .before .before .loop .n) (c .before .before .before .before .before .before .before .before .before .before .before .before .before .before .before .before .before .before .before .before .loop .run) (c .before .before .before .before .before .before .before .before .before .before .before .before .before .before .before .before .before .before .before .before .loop .inv)
+put-counted-requires c κs =
+    room (c .before .before .before .before .before .before .before .before .before .before .before .before .before .before .before)
 
 loop-less-15 : tie.Need-loop-less-15 Inv-loop2 μ-loop2 Inv-loop μ-loop
-loop-less-15 c = omega (arith, (c .before .before .before .before .before .before .before .before .before .before .before .before .before .before .before .before .before .before .before .before .if1 .left), (c .before .before .before .before .before .before .before .before .before .before .before .before .before .before .before .before .before .before .before .before .before .before .find .ensures .0 .1))
+loop-less-15 c =
+    shorter (c .before .before .before .before .before .before .before .before .before .before .before .before .before .before .before .before .before .before)
 
 loop-again-15 : tie.Need-loop-again-15 Inv-loop2 μ-loop2 Inv-loop μ-loop
 unfolding changed
-loop-again-15 c = taking-next (c .before .before .before .before .before .before .before .before .before .before .before .before .before .before .before .before .before .before .before .before .before .before .before .before .before .before .args .s .now) (c .before .before .before .before .before .before .before .before .before .before .before .before .before .before .before .before .before .before .before .before .before .before .before .loop .i) ((c .before .before .before .before .before .before .before .before .before .before .before .before .before .before .before .before .before .before .before .before .before .before .find .result) .end) ((c .before .before .before .before .before .before .before .before .before .before .before .before .before .before .before .before .before .before .before .before .before .before .find .result) .step) (c .before .before .before .before .before .before .before .before .before .before .before .before .before .before .before .before .before .before .before .before .if1 .left) ((c .before .before .before .before .before .before .before .before .before .before .before .before .before .before .before .before .before .before .before .before .before .before .find .ensures .0 .1)) ((c .before .before .before .before .before .before .before .before .before .before .before .before .before .before .before .before .before .before .before .before .before .before .find .ensures .1 .1) (c .before .before .before .before .before .before .before .before .before .before .before .before .before .before .before .before .before .before .before .before .if1 .left)) (c .before .before .before .before .before .before .before .before .before .before .before .before .before .before .before .before .before .before .before .before .before .before .before .before .before .before .args .at) (c .before .before .before .before .before .before .before .before .before .before .before .before .before .before .before .before .before .before .before .before .before .before .before .before .before .before .args .row) (c .before .before .before .before .before .before .before .before .before .before .before .before .before .before .before .before .before .before .before .before .before .before .before .before .before .before .args .t5) (c .before .before .before .before .before .before .before .before .before .before .before .before .before .before .before .before .before .before .before .before .before .before .before .before .before .before .args .out .now) (c .before .before .before .before .before .before .before .before .before .before .before .before .before .before .before .before .before .before .before .before .before .before .before .loop .out) (c .before .before .before .before .before .before .before .before .before .before .before .before .before .before .before .before .before .before .before .before .before .before .before .loop .o) (c .before .before .before .before .before .before .before .before .before .before .before .before .before .before .before .before .before .before .before .before .before .before .before .loop .n) (c .before .before .before .before .before .before .before .before .before .before .before .before .before .before .before .before .before .before .before .before .before .before .before .loop .run) (c .before .before .before .before .before .before .before .before .before .before .before .before .before .before .before .before .before .before .before .before .before .before .before .loop .inv) _ _ _ (sym (turn (c .before .before .before .before .before .before .before .before .before .before .before .before .before .before .before .before .before .before .before .before .before .before .before .loop .run) ((c .before .before .before .before .before .before .before .before .before .before .before .before .before .before .before .before .before .before .before .before .before .before .find .result) .step) ((c .before .before .before .before .before .before .before .before .before .before .before .before .before .before .before .before .before .before .before .before .before .before .before .loop .inv .sound)) (c .before .before .before .before .before .before .before .before .before .before .before .before .before .before .before .before .before .before .admit .result) _ (c .before .before .before .before .before .before .before .before .before .before .before .before .before .before .before .before .before .before .admit .ensures) (c .before .before .before .before .before .before .before .before .before .before .before .before .before .before .before .before .j .given .1) _ (decide-reply (c .before .before .before .before .before .before .before .before .before .before .before .before .before .before .before .before .before .before .before .before .before .before .before .loop .run) _ _ (c .before .before .before .before .before .before .before .before .before .before .before .before .held2 .given .1) ∙ (c .before .before .before .before .before .before .before .before .hear .ensures) ((c .before .before .before .before .before .before .before .before .before .before .before .before .before .before .before .before .j .given .0 .0)) ∙ ap (hearsAs (((c .before .before .before .before .before .before .before .before .before .before .before .before .held2 .given .0 .0)) .client) ((c .before .before .before .before .before .before .before .before .before .before .before .before .before .before .before .before .j .given .0 .0))) (c .before .before .before .before .before .before .next3 .given .1)))) ((c .before .before .put-counted .ensures .0)) ((c .before .before .put-counted .ensures .1))
+loop-again-15 c =
+    let h = c .before .before .before .before .before .before .before .before .before .before .before .before .before .before .before .before .before .before in
+    next h _ _ _
+    (admitted h _ (c .before .before .before .before .before .before .before .before .before .before .before .before .before .before .before .before .j .given .1) _
+    (decide-reply (held h) _ _ (c .before .before .before .before .before .before .before .before .before .before .before .before .held2 .given .1)
+    ∙ (c .before .before .before .before .before .before .before .before .hear .ensures) (c .before .before .before .before .before .before .before .before .before .before .before .before .before .before .before .before .j .given .0 .0)
+    ∙ ap (hearsAs ((c .before .before .before .before .before .before .before .before .before .before .before .before .held2 .given .0 .0) .client) (c .before .before .before .before .before .before .before .before .before .before .before .before .before .before .before .before .j .given .0 .0)) (c .before .before .before .before .before .before .next3 .given .1)))
+    (c .before .before .put-counted .ensures .0)
+    (c .before .before .put-counted .ensures .1)
 
 enum-known-how : tie.Need-enum-known-how Inv-loop2 μ-loop2 Inv-loop μ-loop
 enum-known-how c = search needs
@@ -499,20 +755,34 @@ mul-next-4 : tie.Need-mul-next-4 Inv-loop2 μ-loop2 Inv-loop μ-loop
 mul-next-4 c = search needs
 
 element-set-from-next-4 : tie.Need-element-set-from-next-4 Inv-loop2 μ-loop2 Inv-loop μ-loop
-element-set-from-next-4 c = reply-places (c .before .before .before .before .before .before .before .before .before .before .before .before .before .before .before .before .before .before .before .loop .run) ((c .before .before .before .before .before .before .before .before .before .before .before .before .before .before .before .before .before .before .before .loop .inv .sound)) _ _ (c .before .before .before .before .before .before .before .before .held2 .given .1) .0
+element-set-from-next-4 c =
+    let h = c .before .before .before .before .before .before .before .before .before .before .before .before .before .before in
+    reply-places (held h) (sound h) _ _ (c .before .before .before .before .before .before .before .before .held2 .given .1) .0
 
 add-put-ended : tie.Need-add-put-ended Inv-loop2 μ-loop2 Inv-loop μ-loop
-add-put-ended c = omega (arith, delivers-place (c .before .before .before .before .before .before .before .before .before .before .before .before .before .before .before .before .before .before .before .before .loop .run) ((c .before .before .before .before .before .before .before .before .before .before .before .before .before .before .before .before .before .before .before .find .result) .step) ((c .before .before .before .before .before .before .before .before .before .before .before .before .before .before .before .before .before .before .before .before .loop .inv .sound)) _ (sym (c .before .before .before .before .before .before .before .before .before .before .before .before .before .j .given .1) ∙ (c .before .before .before .before .before .before .before .before .before .before .before .before .before .before .before .admit .ensures)))
+add-put-ended c =
+    let h = c .before .before .before .before .before .before .before .before .before .before .before .before .before .before .before in
+    omega (arith, delivers-place (held h) (asks h) (sound h) _ (sym (c .before .before .before .before .before .before .before .before .before .before .before .before .before .j .given .1) ∙ h .admit .ensures))
 
 put-ended-requires : tie.Need-put-ended-requires Inv-loop2 μ-loop2 Inv-loop μ-loop
-put-ended-requires c κs = taking-room (c .before .before .before .before .before .before .before .before .before .before .before .before .before .before .before .before .before .before .before .before .before .before .before .args .s .now) (c .before .before .before .before .before .before .before .before .before .before .before .before .before .before .before .before .before .before .before .before .loop .i) ((c .before .before .before .before .before .before .before .before .before .before .before .before .before .before .before .before .before .before .before .find .result) .end) ((c .before .before .before .before .before .before .before .before .before .before .before .before .before .before .before .before .before .before .before .find .result) .step) (c .before .before .before .before .before .before .before .before .before .before .before .before .before .before .before .before .before .if1 .left) ((c .before .before .before .before .before .before .before .before .before .before .before .before .before .before .before .before .before .before .before .find .ensures .0 .1)) ((c .before .before .before .before .before .before .before .before .before .before .before .before .before .before .before .before .before .before .before .find .ensures .1 .1) (c .before .before .before .before .before .before .before .before .before .before .before .before .before .before .before .before .before .if1 .left)) (c .before .before .before .before .before .before .before .before .before .before .before .before .before .before .before .before .before .before .before .before .before .before .before .args .at) (c .before .before .before .before .before .before .before .before .before .before .before .before .before .before .before .before .before .before .before .before .before .before .before .args .row) (c .before .before .before .before .before .before .before .before .before .before .before .before .before .before .before .before .before .before .before .before .before .before .before .args .t5) (c .before .before .before .before .before .before .before .before .before .before .before .before .before .before .before .before .before .before .before .before .before .before .before .args .out .now) (c .before .before .before .before .before .before .before .before .before .before .before .before .before .before .before .before .before .before .before .before .loop .out) (c .before .before .before .before .before .before .before .before .before .before .before .before .before .before .before .before .before .before .before .before .loop .o) (c .before .before .before .before .before .before .before .before .before .before .before .before .before .before .before .before .before .before .before .before .loop .n) (c .before .before .before .before .before .before .before .before .before .before .before .before .before .before .before .before .before .before .before .before .loop .run) (c .before .before .before .before .before .before .before .before .before .before .before .before .before .before .before .before .before .before .before .before .loop .inv)
+put-ended-requires c κs =
+    room (c .before .before .before .before .before .before .before .before .before .before .before .before .before .before .before)
 
 loop-less-16 : tie.Need-loop-less-16 Inv-loop2 μ-loop2 Inv-loop μ-loop
-loop-less-16 c = omega (arith, (c .before .before .before .before .before .before .before .before .before .before .before .before .before .before .before .before .before .before .before .before .if1 .left), (c .before .before .before .before .before .before .before .before .before .before .before .before .before .before .before .before .before .before .before .before .before .before .find .ensures .0 .1))
+loop-less-16 c =
+    shorter (c .before .before .before .before .before .before .before .before .before .before .before .before .before .before .before .before .before .before)
 
 loop-again-16 : tie.Need-loop-again-16 Inv-loop2 μ-loop2 Inv-loop μ-loop
 unfolding changed
-loop-again-16 c = taking-next (c .before .before .before .before .before .before .before .before .before .before .before .before .before .before .before .before .before .before .before .before .before .before .before .before .before .before .args .s .now) (c .before .before .before .before .before .before .before .before .before .before .before .before .before .before .before .before .before .before .before .before .before .before .before .loop .i) ((c .before .before .before .before .before .before .before .before .before .before .before .before .before .before .before .before .before .before .before .before .before .before .find .result) .end) ((c .before .before .before .before .before .before .before .before .before .before .before .before .before .before .before .before .before .before .before .before .before .before .find .result) .step) (c .before .before .before .before .before .before .before .before .before .before .before .before .before .before .before .before .before .before .before .before .if1 .left) ((c .before .before .before .before .before .before .before .before .before .before .before .before .before .before .before .before .before .before .before .before .before .before .find .ensures .0 .1)) ((c .before .before .before .before .before .before .before .before .before .before .before .before .before .before .before .before .before .before .before .before .before .before .find .ensures .1 .1) (c .before .before .before .before .before .before .before .before .before .before .before .before .before .before .before .before .before .before .before .before .if1 .left)) (c .before .before .before .before .before .before .before .before .before .before .before .before .before .before .before .before .before .before .before .before .before .before .before .before .before .before .args .at) (c .before .before .before .before .before .before .before .before .before .before .before .before .before .before .before .before .before .before .before .before .before .before .before .before .before .before .args .row) (c .before .before .before .before .before .before .before .before .before .before .before .before .before .before .before .before .before .before .before .before .before .before .before .before .before .before .args .t5) (c .before .before .before .before .before .before .before .before .before .before .before .before .before .before .before .before .before .before .before .before .before .before .before .before .before .before .args .out .now) (c .before .before .before .before .before .before .before .before .before .before .before .before .before .before .before .before .before .before .before .before .before .before .before .loop .out) (c .before .before .before .before .before .before .before .before .before .before .before .before .before .before .before .before .before .before .before .before .before .before .before .loop .o) (c .before .before .before .before .before .before .before .before .before .before .before .before .before .before .before .before .before .before .before .before .before .before .before .loop .n) (c .before .before .before .before .before .before .before .before .before .before .before .before .before .before .before .before .before .before .before .before .before .before .before .loop .run) (c .before .before .before .before .before .before .before .before .before .before .before .before .before .before .before .before .before .before .before .before .before .before .before .loop .inv) _ _ _ (sym (turn (c .before .before .before .before .before .before .before .before .before .before .before .before .before .before .before .before .before .before .before .before .before .before .before .loop .run) ((c .before .before .before .before .before .before .before .before .before .before .before .before .before .before .before .before .before .before .before .before .before .before .find .result) .step) ((c .before .before .before .before .before .before .before .before .before .before .before .before .before .before .before .before .before .before .before .before .before .before .before .loop .inv .sound)) (c .before .before .before .before .before .before .before .before .before .before .before .before .before .before .before .before .before .before .admit .result) _ (c .before .before .before .before .before .before .before .before .before .before .before .before .before .before .before .before .before .before .admit .ensures) (c .before .before .before .before .before .before .before .before .before .before .before .before .before .before .before .before .j .given .1) _ (decide-reply (c .before .before .before .before .before .before .before .before .before .before .before .before .before .before .before .before .before .before .before .before .before .before .before .loop .run) _ _ (c .before .before .before .before .before .before .before .before .before .before .before .before .held2 .given .1) ∙ (c .before .before .before .before .before .before .before .before .hear .ensures) ((c .before .before .before .before .before .before .before .before .before .before .before .before .before .before .before .before .j .given .0 .0)) ∙ ap (hearsAs (((c .before .before .before .before .before .before .before .before .before .before .before .before .held2 .given .0 .0)) .client) ((c .before .before .before .before .before .before .before .before .before .before .before .before .before .before .before .before .j .given .0 .0))) (c .before .before .before .before .before .before .how .given .1)))) ((c .before .before .put-ended .ensures .0)) ((c .before .before .put-ended .ensures .1))
+loop-again-16 c =
+    let h = c .before .before .before .before .before .before .before .before .before .before .before .before .before .before .before .before .before .before in
+    next h _ _ _
+    (admitted h _ (c .before .before .before .before .before .before .before .before .before .before .before .before .before .before .before .before .j .given .1) _
+    (decide-reply (held h) _ _ (c .before .before .before .before .before .before .before .before .before .before .before .before .held2 .given .1)
+    ∙ (c .before .before .before .before .before .before .before .before .hear .ensures) (c .before .before .before .before .before .before .before .before .before .before .before .before .before .before .before .before .j .given .0 .0)
+    ∙ ap (hearsAs ((c .before .before .before .before .before .before .before .before .before .before .before .before .held2 .given .0 .0) .client) (c .before .before .before .before .before .before .before .before .before .before .before .before .before .before .before .before .j .given .0 .0)) (c .before .before .before .before .before .before .how .given .1)))
+    (c .before .before .put-ended .ensures .0)
+    (c .before .before .put-ended .ensures .1)
 
 enum-known-j-2 : tie.Need-enum-known-j-2 Inv-loop2 μ-loop2 Inv-loop μ-loop
 enum-known-j-2 c = search needs
@@ -524,20 +794,29 @@ mul-t-3 : tie.Need-mul-t-3 Inv-loop2 μ-loop2 Inv-loop μ-loop
 mul-t-3 c = search needs
 
 element-copy-out-t-3 : tie.Need-element-copy-out-t-3 Inv-loop2 μ-loop2 Inv-loop μ-loop
-element-copy-out-t-3 c = loses-place (c .before .before .before .before .before .before .before .before .loop .run) ((c .before .before .before .before .before .before .before .find .result) .step) ((c .before .before .before .before .before .before .before .before .loop .inv .sound)) _ (sym (c .before .j2 .given .1) ∙ (c .before .before .before .admit .ensures))
+element-copy-out-t-3 c =
+    let h = c .before .before .before in
+    loses-place (held h) (asks h) (sound h) _ (sym (c .before .j2 .given .1) ∙ h .admit .ensures)
 
 is-empty-requires-2 : tie.Need-is-empty-requires-2 Inv-loop2 μ-loop2 Inv-loop μ-loop
 is-empty-requires-2 c κs = search needs
 
 refuse-requires-7 : tie.Need-refuse-requires-7 Inv-loop2 μ-loop2 Inv-loop μ-loop
-refuse-requires-7 c κs = taking-room (c .before .before .before .before .before .before .before .before .before .before .before .before .before .before .before .args .s .now) (c .before .before .before .before .before .before .before .before .before .before .before .before .loop .i) ((c .before .before .before .before .before .before .before .before .before .before .before .find .result) .end) ((c .before .before .before .before .before .before .before .before .before .before .before .find .result) .step) (c .before .before .before .before .before .before .before .before .before .if1 .left) ((c .before .before .before .before .before .before .before .before .before .before .before .find .ensures .0 .1)) ((c .before .before .before .before .before .before .before .before .before .before .before .find .ensures .1 .1) (c .before .before .before .before .before .before .before .before .before .if1 .left)) (c .before .before .before .before .before .before .before .before .before .before .before .before .before .before .before .args .at) (c .before .before .before .before .before .before .before .before .before .before .before .before .before .before .before .args .row) (c .before .before .before .before .before .before .before .before .before .before .before .before .before .before .before .args .t5) (c .before .before .before .before .before .before .before .before .before .before .before .before .before .before .before .args .out .now) (c .before .before .before .before .before .before .before .before .before .before .before .before .loop .out) (c .before .before .before .before .before .before .before .before .before .before .before .before .loop .o) (c .before .before .before .before .before .before .before .before .before .before .before .before .loop .n) (c .before .before .before .before .before .before .before .before .before .before .before .before .loop .run) (c .before .before .before .before .before .before .before .before .before .before .before .before .loop .inv)
+refuse-requires-7 c κs = room (c .before .before .before .before .before .before .before)
 
 loop-less-17 : tie.Need-loop-less-17 Inv-loop2 μ-loop2 Inv-loop μ-loop
-loop-less-17 c = omega (arith, (c .before .before .before .before .before .before .before .before .before .before .before .before .if1 .left), (c .before .before .before .before .before .before .before .before .before .before .before .before .before .before .find .ensures .0 .1))
+loop-less-17 c = shorter (c .before .before .before .before .before .before .before .before .before .before)
 
 loop-again-17 : tie.Need-loop-again-17 Inv-loop2 μ-loop2 Inv-loop μ-loop
 unfolding changed
-loop-again-17 c = taking-next (c .before .before .before .before .before .before .before .before .before .before .before .before .before .before .before .before .before .before .args .s .now) (c .before .before .before .before .before .before .before .before .before .before .before .before .before .before .before .loop .i) ((c .before .before .before .before .before .before .before .before .before .before .before .before .before .before .find .result) .end) ((c .before .before .before .before .before .before .before .before .before .before .before .before .before .before .find .result) .step) (c .before .before .before .before .before .before .before .before .before .before .before .before .if1 .left) ((c .before .before .before .before .before .before .before .before .before .before .before .before .before .before .find .ensures .0 .1)) ((c .before .before .before .before .before .before .before .before .before .before .before .before .before .before .find .ensures .1 .1) (c .before .before .before .before .before .before .before .before .before .before .before .before .if1 .left)) (c .before .before .before .before .before .before .before .before .before .before .before .before .before .before .before .before .before .before .args .at) (c .before .before .before .before .before .before .before .before .before .before .before .before .before .before .before .before .before .before .args .row) (c .before .before .before .before .before .before .before .before .before .before .before .before .before .before .before .before .before .before .args .t5) (c .before .before .before .before .before .before .before .before .before .before .before .before .before .before .before .before .before .before .args .out .now) (c .before .before .before .before .before .before .before .before .before .before .before .before .before .before .before .loop .out) (c .before .before .before .before .before .before .before .before .before .before .before .before .before .before .before .loop .o) (c .before .before .before .before .before .before .before .before .before .before .before .before .before .before .before .loop .n) (c .before .before .before .before .before .before .before .before .before .before .before .before .before .before .before .loop .run) (c .before .before .before .before .before .before .before .before .before .before .before .before .before .before .before .loop .inv) _ _ _ (sym (turn (c .before .before .before .before .before .before .before .before .before .before .before .before .before .before .before .loop .run) ((c .before .before .before .before .before .before .before .before .before .before .before .before .before .before .find .result) .step) ((c .before .before .before .before .before .before .before .before .before .before .before .before .before .before .before .loop .inv .sound)) (c .before .before .before .before .before .before .before .before .before .before .admit .result) _ (c .before .before .before .before .before .before .before .before .before .before .admit .ensures) (c .before .before .before .before .before .before .before .before .j2 .given .1) _ (decide-loses (c .before .before .before .before .before .before .before .before .before .before .before .before .before .before .before .loop .run) _ ∙ lost-none (getD ((c .before .before .before .before .before .before .before .before .before .before .before .before .before .before .before .loop .run) .slots) ((c .before .before .before .before .before .before .before .before .j2 .given .0 .0)) emptySlot .held) ((c .before .before .before .before .before .before .before .before .j2 .given .0 .0)) (sym (c .before .before .before .before .before .is-empty2 .ensures) ∙ (c .before .before .before .before .if5 .taken))))) ((c .before .before .refuse7 .ensures .0)) ((c .before .before .refuse7 .ensures .1))
+loop-again-17 c =
+    let h = c .before .before .before .before .before .before .before .before .before .before in
+    next h _ _ _
+    (admitted h _ (c .before .before .before .before .before .before .before .before .j2 .given .1) _
+    (decide-loses (held h) _
+    ∙ lost-none (getD ((held h) .slots) (c .before .before .before .before .before .before .before .before .j2 .given .0 .0) emptySlot .held) (c .before .before .before .before .before .before .before .before .j2 .given .0 .0) (sym (c .before .before .before .before .before .is-empty2 .ensures) ∙ (c .before .before .before .before .if5 .taken))))
+    (c .before .before .refuse7 .ensures .0)
+    (c .before .before .refuse7 .ensures .1)
 
 cast-t217 : tie.Need-cast-t217 Inv-loop2 μ-loop2 Inv-loop μ-loop
 cast-t217 c = search needs
@@ -546,23 +825,34 @@ mul-t218 : tie.Need-mul-t218 Inv-loop2 μ-loop2 Inv-loop μ-loop
 mul-t218 c = search needs
 
 element-set-from-run-6 : tie.Need-element-set-from-run-6 Inv-loop2 μ-loop2 Inv-loop μ-loop
-element-set-from-run-6 c = loses-place (c .before .before .before .before .before .before .before .before .before .before .before .loop .run) ((c .before .before .before .before .before .before .before .before .before .before .find .result) .step) ((c .before .before .before .before .before .before .before .before .before .before .before .loop .inv .sound)) _ (sym (c .before .before .before .before .j2 .given .1) ∙ (c .before .before .before .before .before .before .admit .ensures))
+element-set-from-run-6 c =
+    let h = c .before .before .before .before .before .before in
+    loses-place (held h) (asks h) (sound h) _ (sym (c .before .before .before .before .j2 .given .1) ∙ h .admit .ensures)
 
 add-run-6 : tie.Need-add-run-6 Inv-loop2 μ-loop2 Inv-loop μ-loop
-add-run-6 c = omega (arith, steps-most (c .before .before .before .before .before .before .before .before .before .before .before .loop .run) ((c .before .before .before .before .before .before .before .before .before .before .before .loop .inv .sound)))
+add-run-6 c = let h = c .before .before .before .before .before .before in omega (arith, steps-most (held h) (sound h))
 
 add-t225 : tie.Need-add-t225 Inv-loop2 μ-loop2 Inv-loop μ-loop
-add-t225 c = omega (arith, loses-place (c .before .before .before .before .before .before .before .before .before .before .before .before .loop .run) ((c .before .before .before .before .before .before .before .before .before .before .before .find .result) .step) ((c .before .before .before .before .before .before .before .before .before .before .before .before .loop .inv .sound)) _ (sym (c .before .before .before .before .before .j2 .given .1) ∙ (c .before .before .before .before .before .before .before .admit .ensures)))
+add-t225 c =
+    let h = c .before .before .before .before .before .before .before in
+    omega (arith, loses-place (held h) (asks h) (sound h) _ (sym (c .before .before .before .before .before .j2 .given .1) ∙ h .admit .ensures))
 
 accept-requires-3 : tie.Need-accept-requires-3 Inv-loop2 μ-loop2 Inv-loop μ-loop
-accept-requires-3 c κs = taking-room (c .before .before .before .before .before .before .before .before .before .before .before .before .before .before .before .args .s .now) (c .before .before .before .before .before .before .before .before .before .before .before .before .loop .i) ((c .before .before .before .before .before .before .before .before .before .before .before .find .result) .end) ((c .before .before .before .before .before .before .before .before .before .before .before .find .result) .step) (c .before .before .before .before .before .before .before .before .before .if1 .left) ((c .before .before .before .before .before .before .before .before .before .before .before .find .ensures .0 .1)) ((c .before .before .before .before .before .before .before .before .before .before .before .find .ensures .1 .1) (c .before .before .before .before .before .before .before .before .before .if1 .left)) (c .before .before .before .before .before .before .before .before .before .before .before .before .before .before .before .args .at) (c .before .before .before .before .before .before .before .before .before .before .before .before .before .before .before .args .row) (c .before .before .before .before .before .before .before .before .before .before .before .before .before .before .before .args .t5) (c .before .before .before .before .before .before .before .before .before .before .before .before .before .before .before .args .out .now) (c .before .before .before .before .before .before .before .before .before .before .before .before .loop .out) (c .before .before .before .before .before .before .before .before .before .before .before .before .loop .o) (c .before .before .before .before .before .before .before .before .before .before .before .before .loop .n) (c .before .before .before .before .before .before .before .before .before .before .before .before .loop .run) (c .before .before .before .before .before .before .before .before .before .before .before .before .loop .inv)
+accept-requires-3 c κs = room (c .before .before .before .before .before .before .before)
 
 loop-less-18 : tie.Need-loop-less-18 Inv-loop2 μ-loop2 Inv-loop μ-loop
-loop-less-18 c = omega (arith, (c .before .before .before .before .before .before .before .before .before .before .before .before .if1 .left), (c .before .before .before .before .before .before .before .before .before .before .before .before .before .before .find .ensures .0 .1))
+loop-less-18 c = shorter (c .before .before .before .before .before .before .before .before .before .before)
 
 loop-again-18 : tie.Need-loop-again-18 Inv-loop2 μ-loop2 Inv-loop μ-loop
 unfolding changed
-loop-again-18 c = taking-next (c .before .before .before .before .before .before .before .before .before .before .before .before .before .before .before .before .before .before .args .s .now) (c .before .before .before .before .before .before .before .before .before .before .before .before .before .before .before .loop .i) ((c .before .before .before .before .before .before .before .before .before .before .before .before .before .before .find .result) .end) ((c .before .before .before .before .before .before .before .before .before .before .before .before .before .before .find .result) .step) (c .before .before .before .before .before .before .before .before .before .before .before .before .if1 .left) ((c .before .before .before .before .before .before .before .before .before .before .before .before .before .before .find .ensures .0 .1)) ((c .before .before .before .before .before .before .before .before .before .before .before .before .before .before .find .ensures .1 .1) (c .before .before .before .before .before .before .before .before .before .before .before .before .if1 .left)) (c .before .before .before .before .before .before .before .before .before .before .before .before .before .before .before .before .before .before .args .at) (c .before .before .before .before .before .before .before .before .before .before .before .before .before .before .before .before .before .before .args .row) (c .before .before .before .before .before .before .before .before .before .before .before .before .before .before .before .before .before .before .args .t5) (c .before .before .before .before .before .before .before .before .before .before .before .before .before .before .before .before .before .before .args .out .now) (c .before .before .before .before .before .before .before .before .before .before .before .before .before .before .before .loop .out) (c .before .before .before .before .before .before .before .before .before .before .before .before .before .before .before .loop .o) (c .before .before .before .before .before .before .before .before .before .before .before .before .before .before .before .loop .n) (c .before .before .before .before .before .before .before .before .before .before .before .before .before .before .before .loop .run) (c .before .before .before .before .before .before .before .before .before .before .before .before .before .before .before .loop .inv) _ _ _ (sym (turn (c .before .before .before .before .before .before .before .before .before .before .before .before .before .before .before .loop .run) ((c .before .before .before .before .before .before .before .before .before .before .before .before .before .before .find .result) .step) ((c .before .before .before .before .before .before .before .before .before .before .before .before .before .before .before .loop .inv .sound)) (c .before .before .before .before .before .before .before .before .before .before .admit .result) _ (c .before .before .before .before .before .before .before .before .before .before .admit .ensures) (c .before .before .before .before .before .before .before .before .j2 .given .1) _ (decide-loses (c .before .before .before .before .before .before .before .before .before .before .before .before .before .before .before .loop .run) _ ∙ lost-one (getD ((c .before .before .before .before .before .before .before .before .before .before .before .before .before .before .before .loop .run) .slots) ((c .before .before .before .before .before .before .before .before .j2 .given .0 .0)) emptySlot .held) ((c .before .before .before .before .before .before .before .before .j2 .given .0 .0)) (sym (c .before .before .before .before .before .is-empty2 .ensures) ∙ (c .before .before .before .before .if5 .left))))) ((c .before .before .accept3 .ensures .0)) ((c .before .before .accept3 .ensures .1))
+loop-again-18 c =
+    let h = c .before .before .before .before .before .before .before .before .before .before in
+    next h _ _ _
+    (admitted h _ (c .before .before .before .before .before .before .before .before .j2 .given .1) _
+    (decide-loses (held h) _
+    ∙ lost-one (getD ((held h) .slots) (c .before .before .before .before .before .before .before .before .j2 .given .0 .0) emptySlot .held) (c .before .before .before .before .before .before .before .before .j2 .given .0 .0) (sym (c .before .before .before .before .before .is-empty2 .ensures) ∙ (c .before .before .before .before .if5 .left))))
+    (c .before .before .accept3 .ensures .0)
+    (c .before .before .accept3 .ensures .1)
 
 enum-known-p : tie.Need-enum-known-p Inv-loop2 μ-loop2 Inv-loop μ-loop
 enum-known-p c = search needs
@@ -574,20 +864,29 @@ mul-k-2 : tie.Need-mul-k-2 Inv-loop2 μ-loop2 Inv-loop μ-loop
 mul-k-2 c = search needs
 
 element-copy-out-k-2 : tie.Need-element-copy-out-k-2 Inv-loop2 μ-loop2 Inv-loop μ-loop
-element-copy-out-k-2 c = stops-place (c .before .before .before .before .before .before .before .before .loop .run) ((c .before .before .before .before .before .before .before .find .result) .step) ((c .before .before .before .before .before .before .before .before .loop .inv .sound)) _ (sym (c .before .p .given .1) ∙ (c .before .before .before .admit .ensures))
+element-copy-out-k-2 c =
+    let h = c .before .before .before in
+    stops-place (held h) (asks h) (sound h) _ (sym (c .before .p .given .1) ∙ h .admit .ensures)
 
 is-down-requires : tie.Need-is-down-requires Inv-loop2 μ-loop2 Inv-loop μ-loop
 is-down-requires c κs = search needs
 
 refuse-requires-8 : tie.Need-refuse-requires-8 Inv-loop2 μ-loop2 Inv-loop μ-loop
-refuse-requires-8 c κs = taking-room (c .before .before .before .before .before .before .before .before .before .before .before .before .before .before .before .args .s .now) (c .before .before .before .before .before .before .before .before .before .before .before .before .loop .i) ((c .before .before .before .before .before .before .before .before .before .before .before .find .result) .end) ((c .before .before .before .before .before .before .before .before .before .before .before .find .result) .step) (c .before .before .before .before .before .before .before .before .before .if1 .left) ((c .before .before .before .before .before .before .before .before .before .before .before .find .ensures .0 .1)) ((c .before .before .before .before .before .before .before .before .before .before .before .find .ensures .1 .1) (c .before .before .before .before .before .before .before .before .before .if1 .left)) (c .before .before .before .before .before .before .before .before .before .before .before .before .before .before .before .args .at) (c .before .before .before .before .before .before .before .before .before .before .before .before .before .before .before .args .row) (c .before .before .before .before .before .before .before .before .before .before .before .before .before .before .before .args .t5) (c .before .before .before .before .before .before .before .before .before .before .before .before .before .before .before .args .out .now) (c .before .before .before .before .before .before .before .before .before .before .before .before .loop .out) (c .before .before .before .before .before .before .before .before .before .before .before .before .loop .o) (c .before .before .before .before .before .before .before .before .before .before .before .before .loop .n) (c .before .before .before .before .before .before .before .before .before .before .before .before .loop .run) (c .before .before .before .before .before .before .before .before .before .before .before .before .loop .inv)
+refuse-requires-8 c κs = room (c .before .before .before .before .before .before .before)
 
 loop-less-19 : tie.Need-loop-less-19 Inv-loop2 μ-loop2 Inv-loop μ-loop
-loop-less-19 c = omega (arith, (c .before .before .before .before .before .before .before .before .before .before .before .before .if1 .left), (c .before .before .before .before .before .before .before .before .before .before .before .before .before .before .find .ensures .0 .1))
+loop-less-19 c = shorter (c .before .before .before .before .before .before .before .before .before .before)
 
 loop-again-19 : tie.Need-loop-again-19 Inv-loop2 μ-loop2 Inv-loop μ-loop
 unfolding changed
-loop-again-19 c = taking-next (c .before .before .before .before .before .before .before .before .before .before .before .before .before .before .before .before .before .before .args .s .now) (c .before .before .before .before .before .before .before .before .before .before .before .before .before .before .before .loop .i) ((c .before .before .before .before .before .before .before .before .before .before .before .before .before .before .find .result) .end) ((c .before .before .before .before .before .before .before .before .before .before .before .before .before .before .find .result) .step) (c .before .before .before .before .before .before .before .before .before .before .before .before .if1 .left) ((c .before .before .before .before .before .before .before .before .before .before .before .before .before .before .find .ensures .0 .1)) ((c .before .before .before .before .before .before .before .before .before .before .before .before .before .before .find .ensures .1 .1) (c .before .before .before .before .before .before .before .before .before .before .before .before .if1 .left)) (c .before .before .before .before .before .before .before .before .before .before .before .before .before .before .before .before .before .before .args .at) (c .before .before .before .before .before .before .before .before .before .before .before .before .before .before .before .before .before .before .args .row) (c .before .before .before .before .before .before .before .before .before .before .before .before .before .before .before .before .before .before .args .t5) (c .before .before .before .before .before .before .before .before .before .before .before .before .before .before .before .before .before .before .args .out .now) (c .before .before .before .before .before .before .before .before .before .before .before .before .before .before .before .loop .out) (c .before .before .before .before .before .before .before .before .before .before .before .before .before .before .before .loop .o) (c .before .before .before .before .before .before .before .before .before .before .before .before .before .before .before .loop .n) (c .before .before .before .before .before .before .before .before .before .before .before .before .before .before .before .loop .run) (c .before .before .before .before .before .before .before .before .before .before .before .before .before .before .before .loop .inv) _ _ _ (sym (turn (c .before .before .before .before .before .before .before .before .before .before .before .before .before .before .before .loop .run) ((c .before .before .before .before .before .before .before .before .before .before .before .before .before .before .find .result) .step) ((c .before .before .before .before .before .before .before .before .before .before .before .before .before .before .before .loop .inv .sound)) (c .before .before .before .before .before .before .before .before .before .before .admit .result) _ (c .before .before .before .before .before .before .before .before .before .before .admit .ensures) (c .before .before .before .before .before .before .before .before .p .given .1) _ (decide-stops (c .before .before .before .before .before .before .before .before .before .before .before .before .before .before .before .loop .run) _ ∙ sym (stops-down (getD ((c .before .before .before .before .before .before .before .before .before .before .before .before .before .before .before .loop .run) .cabinets) ((c .before .before .before .before .before .before .before .before .p .given .0 .0)) noCabinet .power) ((c .before .before .before .before .before .before .before .before .p .given .0 .0)) (sym (c .before .before .before .before .before .is-down .ensures) ∙ (c .before .before .before .before .if6 .taken)))))) ((c .before .before .refuse8 .ensures .0)) ((c .before .before .refuse8 .ensures .1))
+loop-again-19 c =
+    let h = c .before .before .before .before .before .before .before .before .before .before in
+    next h _ _ _
+    (admitted h _ (c .before .before .before .before .before .before .before .before .p .given .1) _
+    (decide-stops (held h) _
+    ∙ sym (stops-down (getD ((held h) .cabinets) (c .before .before .before .before .before .before .before .before .p .given .0 .0) noCabinet .power) (c .before .before .before .before .before .before .before .before .p .given .0 .0) (sym (c .before .before .before .before .before .is-down .ensures) ∙ (c .before .before .before .before .if6 .taken)))))
+    (c .before .before .refuse8 .ensures .0)
+    (c .before .before .refuse8 .ensures .1)
 
 stop-requires : tie.Need-stop-requires Inv-loop2 μ-loop2 Inv-loop μ-loop
 stop-requires c κs = search needs
@@ -599,20 +898,30 @@ mul-t238 : tie.Need-mul-t238 Inv-loop2 μ-loop2 Inv-loop μ-loop
 mul-t238 c = search needs
 
 element-set-from-run-7 : tie.Need-element-set-from-run-7 Inv-loop2 μ-loop2 Inv-loop μ-loop
-element-set-from-run-7 c = stops-place (c .before .before .before .before .before .before .before .before .before .before .before .before .loop .run) ((c .before .before .before .before .before .before .before .before .before .before .before .find .result) .step) ((c .before .before .before .before .before .before .before .before .before .before .before .before .loop .inv .sound)) _ (sym (c .before .before .before .before .before .p .given .1) ∙ (c .before .before .before .before .before .before .before .admit .ensures))
+element-set-from-run-7 c =
+    let h = c .before .before .before .before .before .before .before in
+    stops-place (held h) (asks h) (sound h) _ (sym (c .before .before .before .before .before .p .given .1) ∙ h .admit .ensures)
 
 add-run-7 : tie.Need-add-run-7 Inv-loop2 μ-loop2 Inv-loop μ-loop
-add-run-7 c = omega (arith, steps-most (c .before .before .before .before .before .before .before .before .before .before .before .before .loop .run) ((c .before .before .before .before .before .before .before .before .before .before .before .before .loop .inv .sound)))
+add-run-7 c = let h = c .before .before .before .before .before .before .before in omega (arith, steps-most (held h) (sound h))
 
 accept-requires-4 : tie.Need-accept-requires-4 Inv-loop2 μ-loop2 Inv-loop μ-loop
-accept-requires-4 c κs = taking-room (c .before .before .before .before .before .before .before .before .before .before .before .before .before .before .before .before .args .s .now) (c .before .before .before .before .before .before .before .before .before .before .before .before .before .loop .i) ((c .before .before .before .before .before .before .before .before .before .before .before .before .find .result) .end) ((c .before .before .before .before .before .before .before .before .before .before .before .before .find .result) .step) (c .before .before .before .before .before .before .before .before .before .before .if1 .left) ((c .before .before .before .before .before .before .before .before .before .before .before .before .find .ensures .0 .1)) ((c .before .before .before .before .before .before .before .before .before .before .before .before .find .ensures .1 .1) (c .before .before .before .before .before .before .before .before .before .before .if1 .left)) (c .before .before .before .before .before .before .before .before .before .before .before .before .before .before .before .before .args .at) (c .before .before .before .before .before .before .before .before .before .before .before .before .before .before .before .before .args .row) (c .before .before .before .before .before .before .before .before .before .before .before .before .before .before .before .before .args .t5) (c .before .before .before .before .before .before .before .before .before .before .before .before .before .before .before .before .args .out .now) (c .before .before .before .before .before .before .before .before .before .before .before .before .before .loop .out) (c .before .before .before .before .before .before .before .before .before .before .before .before .before .loop .o) (c .before .before .before .before .before .before .before .before .before .before .before .before .before .loop .n) (c .before .before .before .before .before .before .before .before .before .before .before .before .before .loop .run) (c .before .before .before .before .before .before .before .before .before .before .before .before .before .loop .inv)
+accept-requires-4 c κs = room (c .before .before .before .before .before .before .before .before)
 
 loop-less-20 : tie.Need-loop-less-20 Inv-loop2 μ-loop2 Inv-loop μ-loop
-loop-less-20 c = omega (arith, (c .before .before .before .before .before .before .before .before .before .before .before .before .before .if1 .left), (c .before .before .before .before .before .before .before .before .before .before .before .before .before .before .before .find .ensures .0 .1))
+loop-less-20 c = shorter (c .before .before .before .before .before .before .before .before .before .before .before)
 
 loop-again-20 : tie.Need-loop-again-20 Inv-loop2 μ-loop2 Inv-loop μ-loop
 unfolding deedOf
-loop-again-20 c = taking-next (c .before .before .before .before .before .before .before .before .before .before .before .before .before .before .before .before .before .before .before .args .s .now) (c .before .before .before .before .before .before .before .before .before .before .before .before .before .before .before .before .loop .i) ((c .before .before .before .before .before .before .before .before .before .before .before .before .before .before .before .find .result) .end) ((c .before .before .before .before .before .before .before .before .before .before .before .before .before .before .before .find .result) .step) (c .before .before .before .before .before .before .before .before .before .before .before .before .before .if1 .left) ((c .before .before .before .before .before .before .before .before .before .before .before .before .before .before .before .find .ensures .0 .1)) ((c .before .before .before .before .before .before .before .before .before .before .before .before .before .before .before .find .ensures .1 .1) (c .before .before .before .before .before .before .before .before .before .before .before .before .before .if1 .left)) (c .before .before .before .before .before .before .before .before .before .before .before .before .before .before .before .before .before .before .before .args .at) (c .before .before .before .before .before .before .before .before .before .before .before .before .before .before .before .before .before .before .before .args .row) (c .before .before .before .before .before .before .before .before .before .before .before .before .before .before .before .before .before .before .before .args .t5) (c .before .before .before .before .before .before .before .before .before .before .before .before .before .before .before .before .before .before .before .args .out .now) (c .before .before .before .before .before .before .before .before .before .before .before .before .before .before .before .before .loop .out) (c .before .before .before .before .before .before .before .before .before .before .before .before .before .before .before .before .loop .o) (c .before .before .before .before .before .before .before .before .before .before .before .before .before .before .before .before .loop .n) (c .before .before .before .before .before .before .before .before .before .before .before .before .before .before .before .before .loop .run) (c .before .before .before .before .before .before .before .before .before .before .before .before .before .before .before .before .loop .inv) _ _ _ (sym (turn (c .before .before .before .before .before .before .before .before .before .before .before .before .before .before .before .before .loop .run) ((c .before .before .before .before .before .before .before .before .before .before .before .before .before .before .before .find .result) .step) ((c .before .before .before .before .before .before .before .before .before .before .before .before .before .before .before .before .loop .inv .sound)) (c .before .before .before .before .before .before .before .before .before .before .before .admit .result) _ (c .before .before .before .before .before .before .before .before .before .before .before .admit .ensures) (c .before .before .before .before .before .before .before .before .before .p .given .1) _ (decide-stops (c .before .before .before .before .before .before .before .before .before .before .before .before .before .before .before .before .loop .run) _ ∙ sym (stops-up (getD ((c .before .before .before .before .before .before .before .before .before .before .before .before .before .before .before .before .loop .run) .cabinets) ((c .before .before .before .before .before .before .before .before .before .p .given .0 .0)) noCabinet .power) ((c .before .before .before .before .before .before .before .before .before .p .given .0 .0)) (sym (c .before .before .before .before .before .before .is-down .ensures) ∙ (c .before .before .before .before .before .if6 .left)))) ∙ sym (cabinet-put (c .before .before .before .before .before .before .before .before .before .before .before .before .before .before .before .before .loop .run) Stopped ((c .before .before .before .before .before .before .before .before .before .p .given .0 .0)) (c .before .before .before .before .stop .result) GoDown (c .before .before .before .before .stop .ensures)))) ((c .before .before .accept4 .ensures .0)) ((c .before .before .accept4 .ensures .1))
+loop-again-20 c =
+    let h = c .before .before .before .before .before .before .before .before .before .before .before in
+    next h _ _ _
+    (admitted h _ (c .before .before .before .before .before .before .before .before .before .p .given .1) _
+    (decide-stops (held h) _
+    ∙ sym (stops-up (getD ((held h) .cabinets) (c .before .before .before .before .before .before .before .before .before .p .given .0 .0) noCabinet .power) (c .before .before .before .before .before .before .before .before .before .p .given .0 .0) (sym (c .before .before .before .before .before .before .is-down .ensures) ∙ (c .before .before .before .before .before .if6 .left))))
+    ∙ sym (cabinet-put (held h) Stopped (c .before .before .before .before .before .before .before .before .before .p .given .0 .0) (c .before .before .before .before .stop .result) GoDown (c .before .before .before .before .stop .ensures)))
+    (c .before .before .accept4 .ensures .0)
+    (c .before .before .accept4 .ensures .1)
 
 enum-known-p-2 : tie.Need-enum-known-p-2 Inv-loop2 μ-loop2 Inv-loop μ-loop
 enum-known-p-2 c = search needs
@@ -624,7 +933,9 @@ mul-k-3 : tie.Need-mul-k-3 Inv-loop2 μ-loop2 Inv-loop μ-loop
 mul-k-3 c = search needs
 
 element-copy-out-k-3 : tie.Need-element-copy-out-k-3 Inv-loop2 μ-loop2 Inv-loop μ-loop
-element-copy-out-k-3 c = restarts-place (c .before .before .before .before .before .before .before .before .loop .run) ((c .before .before .before .before .before .before .before .find .result) .step) ((c .before .before .before .before .before .before .before .before .loop .inv .sound)) _ (sym (c .before .p2 .given .1) ∙ (c .before .before .before .admit .ensures))
+element-copy-out-k-3 c =
+    let h = c .before .before .before in
+    restarts-place (held h) (asks h) (sound h) _ (sym (c .before .p2 .given .1) ∙ h .admit .ensures)
 
 forgets-requires : tie.Need-forgets-requires Inv-loop2 μ-loop2 Inv-loop μ-loop
 forgets-requires c κs = search needs
@@ -639,20 +950,29 @@ mul-t247 : tie.Need-mul-t247 Inv-loop2 μ-loop2 Inv-loop μ-loop
 mul-t247 c = search needs
 
 element-set-from-run-8 : tie.Need-element-set-from-run-8 Inv-loop2 μ-loop2 Inv-loop μ-loop
-element-set-from-run-8 c = restarts-place (c .before .before .before .before .before .before .before .before .before .before .before .before .loop .run) ((c .before .before .before .before .before .before .before .before .before .before .before .find .result) .step) ((c .before .before .before .before .before .before .before .before .before .before .before .before .loop .inv .sound)) _ (sym (c .before .before .before .before .before .p2 .given .1) ∙ (c .before .before .before .before .before .before .before .admit .ensures))
+element-set-from-run-8 c =
+    let h = c .before .before .before .before .before .before .before in
+    restarts-place (held h) (asks h) (sound h) _ (sym (c .before .before .before .before .before .p2 .given .1) ∙ h .admit .ensures)
 
 add-run-8 : tie.Need-add-run-8 Inv-loop2 μ-loop2 Inv-loop μ-loop
-add-run-8 c = omega (arith, steps-most (c .before .before .before .before .before .before .before .before .before .before .before .before .loop .run) ((c .before .before .before .before .before .before .before .before .before .before .before .before .loop .inv .sound)))
+add-run-8 c = let h = c .before .before .before .before .before .before .before in omega (arith, steps-most (held h) (sound h))
 
 accept-requires-5 : tie.Need-accept-requires-5 Inv-loop2 μ-loop2 Inv-loop μ-loop
-accept-requires-5 c κs = taking-room (c .before .before .before .before .before .before .before .before .before .before .before .before .before .before .before .before .args .s .now) (c .before .before .before .before .before .before .before .before .before .before .before .before .before .loop .i) ((c .before .before .before .before .before .before .before .before .before .before .before .before .find .result) .end) ((c .before .before .before .before .before .before .before .before .before .before .before .before .find .result) .step) (c .before .before .before .before .before .before .before .before .before .before .if1 .left) ((c .before .before .before .before .before .before .before .before .before .before .before .before .find .ensures .0 .1)) ((c .before .before .before .before .before .before .before .before .before .before .before .before .find .ensures .1 .1) (c .before .before .before .before .before .before .before .before .before .before .if1 .left)) (c .before .before .before .before .before .before .before .before .before .before .before .before .before .before .before .before .args .at) (c .before .before .before .before .before .before .before .before .before .before .before .before .before .before .before .before .args .row) (c .before .before .before .before .before .before .before .before .before .before .before .before .before .before .before .before .args .t5) (c .before .before .before .before .before .before .before .before .before .before .before .before .before .before .before .before .args .out .now) (c .before .before .before .before .before .before .before .before .before .before .before .before .before .loop .out) (c .before .before .before .before .before .before .before .before .before .before .before .before .before .loop .o) (c .before .before .before .before .before .before .before .before .before .before .before .before .before .loop .n) (c .before .before .before .before .before .before .before .before .before .before .before .before .before .loop .run) (c .before .before .before .before .before .before .before .before .before .before .before .before .before .loop .inv)
+accept-requires-5 c κs = room (c .before .before .before .before .before .before .before .before)
 
 loop-less-21 : tie.Need-loop-less-21 Inv-loop2 μ-loop2 Inv-loop μ-loop
-loop-less-21 c = omega (arith, (c .before .before .before .before .before .before .before .before .before .before .before .before .before .if1 .left), (c .before .before .before .before .before .before .before .before .before .before .before .before .before .before .before .find .ensures .0 .1))
+loop-less-21 c = shorter (c .before .before .before .before .before .before .before .before .before .before .before)
 
 loop-again-21 : tie.Need-loop-again-21 Inv-loop2 μ-loop2 Inv-loop μ-loop
 unfolding deedOf
-loop-again-21 c = taking-next (c .before .before .before .before .before .before .before .before .before .before .before .before .before .before .before .before .before .before .before .args .s .now) (c .before .before .before .before .before .before .before .before .before .before .before .before .before .before .before .before .loop .i) ((c .before .before .before .before .before .before .before .before .before .before .before .before .before .before .before .find .result) .end) ((c .before .before .before .before .before .before .before .before .before .before .before .before .before .before .before .find .result) .step) (c .before .before .before .before .before .before .before .before .before .before .before .before .before .if1 .left) ((c .before .before .before .before .before .before .before .before .before .before .before .before .before .before .before .find .ensures .0 .1)) ((c .before .before .before .before .before .before .before .before .before .before .before .before .before .before .before .find .ensures .1 .1) (c .before .before .before .before .before .before .before .before .before .before .before .before .before .if1 .left)) (c .before .before .before .before .before .before .before .before .before .before .before .before .before .before .before .before .before .before .before .args .at) (c .before .before .before .before .before .before .before .before .before .before .before .before .before .before .before .before .before .before .before .args .row) (c .before .before .before .before .before .before .before .before .before .before .before .before .before .before .before .before .before .before .before .args .t5) (c .before .before .before .before .before .before .before .before .before .before .before .before .before .before .before .before .before .before .before .args .out .now) (c .before .before .before .before .before .before .before .before .before .before .before .before .before .before .before .before .loop .out) (c .before .before .before .before .before .before .before .before .before .before .before .before .before .before .before .before .loop .o) (c .before .before .before .before .before .before .before .before .before .before .before .before .before .before .before .before .loop .n) (c .before .before .before .before .before .before .before .before .before .before .before .before .before .before .before .before .loop .run) (c .before .before .before .before .before .before .before .before .before .before .before .before .before .before .before .before .loop .inv) _ _ _ (sym (turn (c .before .before .before .before .before .before .before .before .before .before .before .before .before .before .before .before .loop .run) ((c .before .before .before .before .before .before .before .before .before .before .before .before .before .before .before .find .result) .step) ((c .before .before .before .before .before .before .before .before .before .before .before .before .before .before .before .before .loop .inv .sound)) (c .before .before .before .before .before .before .before .before .before .before .before .admit .result) _ (c .before .before .before .before .before .before .before .before .before .before .before .admit .ensures) (c .before .before .before .before .before .before .before .before .before .p2 .given .1) _ (decide-restarts (c .before .before .before .before .before .before .before .before .before .before .before .before .before .before .before .before .loop .run) _) ∙ sym (cabinet-put (c .before .before .before .before .before .before .before .before .before .before .before .before .before .before .before .before .loop .run) Restarted ((c .before .before .before .before .before .before .before .before .before .p2 .given .0 .0)) (c .before .before .before .before .restart .result) ComeUp ((c .before .before .before .before .restart .ensures) ∙ ap (λ (z : Bool). restarted (ltb ((c .before .before .before .before .before .before .before .before .before .p2 .given .0 .0)) ((c .before .before .before .before .before .before .before .before .before .before .before .before .before .before .before .before .loop .run) .plan .stores)) z (getD ((c .before .before .before .before .before .before .before .before .before .before .before .before .before .before .before .before .loop .run) .cabinets) ((c .before .before .before .before .before .before .before .before .before .p2 .given .0 .0)) noCabinet)) (c .before .before .before .before .before .forgets .ensures))))) ((c .before .before .accept5 .ensures .0)) ((c .before .before .accept5 .ensures .1))
+loop-again-21 c =
+    let h = c .before .before .before .before .before .before .before .before .before .before .before in
+    next h _ _ _
+    (admitted h _ (c .before .before .before .before .before .before .before .before .before .p2 .given .1) _
+    (decide-restarts (held h) _)
+    ∙ sym (cabinet-put (held h) Restarted (c .before .before .before .before .before .before .before .before .before .p2 .given .0 .0) (c .before .before .before .before .restart .result) ComeUp ((c .before .before .before .before .restart .ensures) ∙ ap (λ (z : Bool). restarted (ltb (c .before .before .before .before .before .before .before .before .before .p2 .given .0 .0) ((held h) .plan .stores)) z (getD ((held h) .cabinets) (c .before .before .before .before .before .before .before .before .before .p2 .given .0 .0) noCabinet)) (c .before .before .before .before .before .forgets .ensures))))
+    (c .before .before .accept5 .ensures .0)
+    (c .before .before .accept5 .ensures .1)
 
 enum-known-p-3 : tie.Need-enum-known-p-3 Inv-loop2 μ-loop2 Inv-loop μ-loop
 enum-known-p-3 c = search needs
@@ -664,7 +984,9 @@ mul-k-4 : tie.Need-mul-k-4 Inv-loop2 μ-loop2 Inv-loop μ-loop
 mul-k-4 c = search needs
 
 element-copy-out-k-4 : tie.Need-element-copy-out-k-4 Inv-loop2 μ-loop2 Inv-loop μ-loop
-element-copy-out-k-4 c = rolls-place (c .before .before .before .before .before .before .before .before .loop .run) ((c .before .before .before .before .before .before .before .find .result) .step) ((c .before .before .before .before .before .before .before .before .loop .inv .sound)) _ _ (sym (c .before .p3 .given .1) ∙ (c .before .before .before .admit .ensures))
+element-copy-out-k-4 c =
+    let h = c .before .before .before in
+    rolls-place (held h) (asks h) (sound h) _ _ (sym (c .before .p3 .given .1) ∙ h .admit .ensures)
 
 keeps-older-requires : tie.Need-keeps-older-requires Inv-loop2 μ-loop2 Inv-loop μ-loop
 keeps-older-requires c κs = search needs
@@ -685,46 +1007,74 @@ mul-t272 : tie.Need-mul-t272 Inv-loop2 μ-loop2 Inv-loop μ-loop
 mul-t272 c = search needs
 
 element-set-from-run-9 : tie.Need-element-set-from-run-9 Inv-loop2 μ-loop2 Inv-loop μ-loop
-element-set-from-run-9 c = rolls-place (c .before .before .before .before .before .before .before .before .before .before .before .before .before .before .before .before .before .before .loop .run) ((c .before .before .before .before .before .before .before .before .before .before .before .before .before .before .before .before .before .find .result) .step) ((c .before .before .before .before .before .before .before .before .before .before .before .before .before .before .before .before .before .before .loop .inv .sound)) _ _ (sym (c .before .before .before .before .before .before .before .before .before .before .before .p3 .given .1) ∙ (c .before .before .before .before .before .before .before .before .before .before .before .before .before .admit .ensures))
+element-set-from-run-9 c =
+    let h = c .before .before .before .before .before .before .before .before .before .before .before .before .before in
+    rolls-place (held h) (asks h) (sound h) _ _ (sym (c .before .before .before .before .before .before .before .before .before .before .before .p3 .given .1) ∙ h .admit .ensures)
 
 add-run-9 : tie.Need-add-run-9 Inv-loop2 μ-loop2 Inv-loop μ-loop
-add-run-9 c = omega (arith, steps-most (c .before .before .before .before .before .before .before .before .before .before .before .before .before .before .before .before .before .before .loop .run) ((c .before .before .before .before .before .before .before .before .before .before .before .before .before .before .before .before .before .before .loop .inv .sound)))
+add-run-9 c =
+    let h = c .before .before .before .before .before .before .before .before .before .before .before .before .before in
+    omega (arith, steps-most (held h) (sound h))
 
 accept-requires-6 : tie.Need-accept-requires-6 Inv-loop2 μ-loop2 Inv-loop μ-loop
-accept-requires-6 c κs = taking-room (c .before .before .before .before .before .before .before .before .before .before .before .before .before .before .before .before .before .before .before .before .before .before .args .s .now) (c .before .before .before .before .before .before .before .before .before .before .before .before .before .before .before .before .before .before .before .loop .i) ((c .before .before .before .before .before .before .before .before .before .before .before .before .before .before .before .before .before .before .find .result) .end) ((c .before .before .before .before .before .before .before .before .before .before .before .before .before .before .before .before .before .before .find .result) .step) (c .before .before .before .before .before .before .before .before .before .before .before .before .before .before .before .before .if1 .left) ((c .before .before .before .before .before .before .before .before .before .before .before .before .before .before .before .before .before .before .find .ensures .0 .1)) ((c .before .before .before .before .before .before .before .before .before .before .before .before .before .before .before .before .before .before .find .ensures .1 .1) (c .before .before .before .before .before .before .before .before .before .before .before .before .before .before .before .before .if1 .left)) (c .before .before .before .before .before .before .before .before .before .before .before .before .before .before .before .before .before .before .before .before .before .before .args .at) (c .before .before .before .before .before .before .before .before .before .before .before .before .before .before .before .before .before .before .before .before .before .before .args .row) (c .before .before .before .before .before .before .before .before .before .before .before .before .before .before .before .before .before .before .before .before .before .before .args .t5) (c .before .before .before .before .before .before .before .before .before .before .before .before .before .before .before .before .before .before .before .before .before .before .args .out .now) (c .before .before .before .before .before .before .before .before .before .before .before .before .before .before .before .before .before .before .before .loop .out) (c .before .before .before .before .before .before .before .before .before .before .before .before .before .before .before .before .before .before .before .loop .o) (c .before .before .before .before .before .before .before .before .before .before .before .before .before .before .before .before .before .before .before .loop .n) (c .before .before .before .before .before .before .before .before .before .before .before .before .before .before .before .before .before .before .before .loop .run) (c .before .before .before .before .before .before .before .before .before .before .before .before .before .before .before .before .before .before .before .loop .inv)
+accept-requires-6 c κs = room (c .before .before .before .before .before .before .before .before .before .before .before .before .before .before)
 
 loop-less-22 : tie.Need-loop-less-22 Inv-loop2 μ-loop2 Inv-loop μ-loop
-loop-less-22 c = omega (arith, (c .before .before .before .before .before .before .before .before .before .before .before .before .before .before .before .before .before .before .before .if1 .left), (c .before .before .before .before .before .before .before .before .before .before .before .before .before .before .before .before .before .before .before .before .before .find .ensures .0 .1))
+loop-less-22 c =
+    shorter (c .before .before .before .before .before .before .before .before .before .before .before .before .before .before .before .before .before)
 
 loop-again-22 : tie.Need-loop-again-22 Inv-loop2 μ-loop2 Inv-loop μ-loop
 unfolding deedOf
-loop-again-22 c = taking-next (c .before .before .before .before .before .before .before .before .before .before .before .before .before .before .before .before .before .before .before .before .before .before .before .before .before .args .s .now) (c .before .before .before .before .before .before .before .before .before .before .before .before .before .before .before .before .before .before .before .before .before .before .loop .i) ((c .before .before .before .before .before .before .before .before .before .before .before .before .before .before .before .before .before .before .before .before .before .find .result) .end) ((c .before .before .before .before .before .before .before .before .before .before .before .before .before .before .before .before .before .before .before .before .before .find .result) .step) (c .before .before .before .before .before .before .before .before .before .before .before .before .before .before .before .before .before .before .before .if1 .left) ((c .before .before .before .before .before .before .before .before .before .before .before .before .before .before .before .before .before .before .before .before .before .find .ensures .0 .1)) ((c .before .before .before .before .before .before .before .before .before .before .before .before .before .before .before .before .before .before .before .before .before .find .ensures .1 .1) (c .before .before .before .before .before .before .before .before .before .before .before .before .before .before .before .before .before .before .before .if1 .left)) (c .before .before .before .before .before .before .before .before .before .before .before .before .before .before .before .before .before .before .before .before .before .before .before .before .before .args .at) (c .before .before .before .before .before .before .before .before .before .before .before .before .before .before .before .before .before .before .before .before .before .before .before .before .before .args .row) (c .before .before .before .before .before .before .before .before .before .before .before .before .before .before .before .before .before .before .before .before .before .before .before .before .before .args .t5) (c .before .before .before .before .before .before .before .before .before .before .before .before .before .before .before .before .before .before .before .before .before .before .before .before .before .args .out .now) (c .before .before .before .before .before .before .before .before .before .before .before .before .before .before .before .before .before .before .before .before .before .before .loop .out) (c .before .before .before .before .before .before .before .before .before .before .before .before .before .before .before .before .before .before .before .before .before .before .loop .o) (c .before .before .before .before .before .before .before .before .before .before .before .before .before .before .before .before .before .before .before .before .before .before .loop .n) (c .before .before .before .before .before .before .before .before .before .before .before .before .before .before .before .before .before .before .before .before .before .before .loop .run) (c .before .before .before .before .before .before .before .before .before .before .before .before .before .before .before .before .before .before .before .before .before .before .loop .inv) _ _ _ (sym (turn (c .before .before .before .before .before .before .before .before .before .before .before .before .before .before .before .before .before .before .before .before .before .before .loop .run) ((c .before .before .before .before .before .before .before .before .before .before .before .before .before .before .before .before .before .before .before .before .before .find .result) .step) ((c .before .before .before .before .before .before .before .before .before .before .before .before .before .before .before .before .before .before .before .before .before .before .loop .inv .sound)) (c .before .before .before .before .before .before .before .before .before .before .before .before .before .before .before .before .before .admit .result) _ (c .before .before .before .before .before .before .before .before .before .before .before .before .before .before .before .before .before .admit .ensures) (c .before .before .before .before .before .before .before .before .before .before .before .before .before .before .before .p3 .given .1) _ (decide-rolls (c .before .before .before .before .before .before .before .before .before .before .before .before .before .before .before .before .before .before .before .before .before .before .loop .run) _ _ ∙ sym (rolls-back ((c .before .before .before .before .before .before .before .before .before .before .before .before .before .before .before .before .before .before .before .before .before .before .loop .run) .plan) ((c .before .before .before .before .before .before .before .before .before .before .before .before .before .before .before .p3 .given .0 .0)) ((c .before .before .before .before .before .before .before .before .before .before .before .before .before .before .before .p3 .given .0 .1 .0)) (sightOf (getD ((c .before .before .before .before .before .before .before .before .before .before .before .before .before .before .before .before .before .before .before .before .before .before .loop .run) .cabinets) ((c .before .before .before .before .before .before .before .before .before .before .before .before .before .before .before .p3 .given .0 .0)) noCabinet)) (othersFrom ((c .before .before .before .before .before .before .before .before .before .before .before .before .before .before .before .p3 .given .0 .0)) 0 ((c .before .before .before .before .before .before .before .before .before .before .before .before .before .before .before .before .before .before .before .before .before .before .loop .run) .cabinets)) (sym (c .before .before .before .before .before .before .before .before .before .before .before .keeps-older .ensures) ∙ (c .before .before .before .before .before .before .before .before .before .before .if7 .taken)) (ap (λ (z : ℕ). getD ((c .before .before .before .before .before .before .before .before .before .before .before .before .before .before .before .before .before .before .before .before .before .before .loop .run) .cabinets) ((c .before .before .before .before .before .before .before .before .before .before .before .before .before .before .before .p3 .given .0 .0)) noCabinet .marked || ltb z ((c .before .before .before .before .before .before .before .before .before .before .before .before .before .before .before .before .before .before .before .before .before .before .loop .run) .plan .r)) (sym (c .before .before .before .before .before .before .before .before .others-marked .ensures)) ∙ sym (c .before .before .before .before .before .before .before .may-roll .ensures) ∙ (c .before .before .before .before .before .before .if8 .taken)))) ∙ sym (cabinet-put (c .before .before .before .before .before .before .before .before .before .before .before .before .before .before .before .before .before .before .before .before .before .before .loop .run) RolledBack ((c .before .before .before .before .before .before .before .before .before .before .before .before .before .before .before .p3 .given .0 .0)) (c .before .before .before .before .rollback .result) (GoBack ((c .before .before .before .before .before .before .before .before .before .before .before .before .before .before .before .p3 .given .0 .1 .0))) (c .before .before .before .before .rollback .ensures)))) ((c .before .before .accept6 .ensures .0)) ((c .before .before .accept6 .ensures .1))
+loop-again-22 c =
+    let h = c .before .before .before .before .before .before .before .before .before .before .before .before .before .before .before .before .before in
+    next h _ _ _
+    (admitted h _ (c .before .before .before .before .before .before .before .before .before .before .before .before .before .before .before .p3 .given .1) _
+    (decide-rolls (held h) _ _
+    ∙ sym (rolls-back ((held h) .plan) (c .before .before .before .before .before .before .before .before .before .before .before .before .before .before .before .p3 .given .0 .0) (c .before .before .before .before .before .before .before .before .before .before .before .before .before .before .before .p3 .given .0 .1 .0) (sightOf (getD ((held h) .cabinets) (c .before .before .before .before .before .before .before .before .before .before .before .before .before .before .before .p3 .given .0 .0) noCabinet)) (othersFrom (c .before .before .before .before .before .before .before .before .before .before .before .before .before .before .before .p3 .given .0 .0) 0 ((held h) .cabinets)) (sym (c .before .before .before .before .before .before .before .before .before .before .before .keeps-older .ensures) ∙ (c .before .before .before .before .before .before .before .before .before .before .if7 .taken)) (ap (λ (z : ℕ). getD ((held h) .cabinets) (c .before .before .before .before .before .before .before .before .before .before .before .before .before .before .before .p3 .given .0 .0) noCabinet .marked || ltb z ((held h) .plan .r)) (sym (c .before .before .before .before .before .before .before .before .others-marked .ensures)) ∙ sym (c .before .before .before .before .before .before .before .may-roll .ensures) ∙ (c .before .before .before .before .before .before .if8 .taken))))
+    ∙ sym (cabinet-put (held h) RolledBack (c .before .before .before .before .before .before .before .before .before .before .before .before .before .before .before .p3 .given .0 .0) (c .before .before .before .before .rollback .result) (GoBack (c .before .before .before .before .before .before .before .before .before .before .before .before .before .before .before .p3 .given .0 .1 .0)) (c .before .before .before .before .rollback .ensures)))
+    (c .before .before .accept6 .ensures .0)
+    (c .before .before .accept6 .ensures .1)
 
 refuse-requires-9 : tie.Need-refuse-requires-9 Inv-loop2 μ-loop2 Inv-loop μ-loop
-refuse-requires-9 c κs = taking-room (c .before .before .before .before .before .before .before .before .before .before .before .before .before .before .before .before .before .before .before .before .args .s .now) (c .before .before .before .before .before .before .before .before .before .before .before .before .before .before .before .before .before .loop .i) ((c .before .before .before .before .before .before .before .before .before .before .before .before .before .before .before .before .find .result) .end) ((c .before .before .before .before .before .before .before .before .before .before .before .before .before .before .before .before .find .result) .step) (c .before .before .before .before .before .before .before .before .before .before .before .before .before .before .if1 .left) ((c .before .before .before .before .before .before .before .before .before .before .before .before .before .before .before .before .find .ensures .0 .1)) ((c .before .before .before .before .before .before .before .before .before .before .before .before .before .before .before .before .find .ensures .1 .1) (c .before .before .before .before .before .before .before .before .before .before .before .before .before .before .if1 .left)) (c .before .before .before .before .before .before .before .before .before .before .before .before .before .before .before .before .before .before .before .before .args .at) (c .before .before .before .before .before .before .before .before .before .before .before .before .before .before .before .before .before .before .before .before .args .row) (c .before .before .before .before .before .before .before .before .before .before .before .before .before .before .before .before .before .before .before .before .args .t5) (c .before .before .before .before .before .before .before .before .before .before .before .before .before .before .before .before .before .before .before .before .args .out .now) (c .before .before .before .before .before .before .before .before .before .before .before .before .before .before .before .before .before .loop .out) (c .before .before .before .before .before .before .before .before .before .before .before .before .before .before .before .before .before .loop .o) (c .before .before .before .before .before .before .before .before .before .before .before .before .before .before .before .before .before .loop .n) (c .before .before .before .before .before .before .before .before .before .before .before .before .before .before .before .before .before .loop .run) (c .before .before .before .before .before .before .before .before .before .before .before .before .before .before .before .before .before .loop .inv)
+refuse-requires-9 c κs = room (c .before .before .before .before .before .before .before .before .before .before .before .before)
 
 loop-less-23 : tie.Need-loop-less-23 Inv-loop2 μ-loop2 Inv-loop μ-loop
-loop-less-23 c = omega (arith, (c .before .before .before .before .before .before .before .before .before .before .before .before .before .before .before .before .before .if1 .left), (c .before .before .before .before .before .before .before .before .before .before .before .before .before .before .before .before .before .before .before .find .ensures .0 .1))
+loop-less-23 c = shorter (c .before .before .before .before .before .before .before .before .before .before .before .before .before .before .before)
 
 loop-again-23 : tie.Need-loop-again-23 Inv-loop2 μ-loop2 Inv-loop μ-loop
 unfolding changed
-loop-again-23 c = taking-next (c .before .before .before .before .before .before .before .before .before .before .before .before .before .before .before .before .before .before .before .before .before .before .before .args .s .now) (c .before .before .before .before .before .before .before .before .before .before .before .before .before .before .before .before .before .before .before .before .loop .i) ((c .before .before .before .before .before .before .before .before .before .before .before .before .before .before .before .before .before .before .before .find .result) .end) ((c .before .before .before .before .before .before .before .before .before .before .before .before .before .before .before .before .before .before .before .find .result) .step) (c .before .before .before .before .before .before .before .before .before .before .before .before .before .before .before .before .before .if1 .left) ((c .before .before .before .before .before .before .before .before .before .before .before .before .before .before .before .before .before .before .before .find .ensures .0 .1)) ((c .before .before .before .before .before .before .before .before .before .before .before .before .before .before .before .before .before .before .before .find .ensures .1 .1) (c .before .before .before .before .before .before .before .before .before .before .before .before .before .before .before .before .before .if1 .left)) (c .before .before .before .before .before .before .before .before .before .before .before .before .before .before .before .before .before .before .before .before .before .before .before .args .at) (c .before .before .before .before .before .before .before .before .before .before .before .before .before .before .before .before .before .before .before .before .before .before .before .args .row) (c .before .before .before .before .before .before .before .before .before .before .before .before .before .before .before .before .before .before .before .before .before .before .before .args .t5) (c .before .before .before .before .before .before .before .before .before .before .before .before .before .before .before .before .before .before .before .before .before .before .before .args .out .now) (c .before .before .before .before .before .before .before .before .before .before .before .before .before .before .before .before .before .before .before .before .loop .out) (c .before .before .before .before .before .before .before .before .before .before .before .before .before .before .before .before .before .before .before .before .loop .o) (c .before .before .before .before .before .before .before .before .before .before .before .before .before .before .before .before .before .before .before .before .loop .n) (c .before .before .before .before .before .before .before .before .before .before .before .before .before .before .before .before .before .before .before .before .loop .run) (c .before .before .before .before .before .before .before .before .before .before .before .before .before .before .before .before .before .before .before .before .loop .inv) _ _ _ (sym (turn (c .before .before .before .before .before .before .before .before .before .before .before .before .before .before .before .before .before .before .before .before .loop .run) ((c .before .before .before .before .before .before .before .before .before .before .before .before .before .before .before .before .before .before .before .find .result) .step) ((c .before .before .before .before .before .before .before .before .before .before .before .before .before .before .before .before .before .before .before .before .loop .inv .sound)) (c .before .before .before .before .before .before .before .before .before .before .before .before .before .before .before .admit .result) _ (c .before .before .before .before .before .before .before .before .before .before .before .before .before .before .before .admit .ensures) (c .before .before .before .before .before .before .before .before .before .before .before .before .before .p3 .given .1) _ (decide-rolls (c .before .before .before .before .before .before .before .before .before .before .before .before .before .before .before .before .before .before .before .before .loop .run) _ _ ∙ sym (rolls-many ((c .before .before .before .before .before .before .before .before .before .before .before .before .before .before .before .before .before .before .before .before .loop .run) .plan) ((c .before .before .before .before .before .before .before .before .before .before .before .before .before .p3 .given .0 .0)) ((c .before .before .before .before .before .before .before .before .before .before .before .before .before .p3 .given .0 .1 .0)) (sightOf (getD ((c .before .before .before .before .before .before .before .before .before .before .before .before .before .before .before .before .before .before .before .before .loop .run) .cabinets) ((c .before .before .before .before .before .before .before .before .before .before .before .before .before .p3 .given .0 .0)) noCabinet)) (othersFrom ((c .before .before .before .before .before .before .before .before .before .before .before .before .before .p3 .given .0 .0)) 0 ((c .before .before .before .before .before .before .before .before .before .before .before .before .before .before .before .before .before .before .before .before .loop .run) .cabinets)) (sym (c .before .before .before .before .before .before .before .before .before .keeps-older .ensures) ∙ (c .before .before .before .before .before .before .before .before .if7 .taken)) (ap (λ (z : ℕ). getD ((c .before .before .before .before .before .before .before .before .before .before .before .before .before .before .before .before .before .before .before .before .loop .run) .cabinets) ((c .before .before .before .before .before .before .before .before .before .before .before .before .before .p3 .given .0 .0)) noCabinet .marked || ltb z ((c .before .before .before .before .before .before .before .before .before .before .before .before .before .before .before .before .before .before .before .before .loop .run) .plan .r)) (sym (c .before .before .before .before .before .before .others-marked .ensures)) ∙ sym (c .before .before .before .before .before .may-roll .ensures) ∙ (c .before .before .before .before .if8 .left)))))) ((c .before .before .refuse9 .ensures .0)) ((c .before .before .refuse9 .ensures .1))
+loop-again-23 c =
+    let h = c .before .before .before .before .before .before .before .before .before .before .before .before .before .before .before in
+    next h _ _ _
+    (admitted h _ (c .before .before .before .before .before .before .before .before .before .before .before .before .before .p3 .given .1) _
+    (decide-rolls (held h) _ _
+    ∙ sym (rolls-many ((held h) .plan) (c .before .before .before .before .before .before .before .before .before .before .before .before .before .p3 .given .0 .0) (c .before .before .before .before .before .before .before .before .before .before .before .before .before .p3 .given .0 .1 .0) (sightOf (getD ((held h) .cabinets) (c .before .before .before .before .before .before .before .before .before .before .before .before .before .p3 .given .0 .0) noCabinet)) (othersFrom (c .before .before .before .before .before .before .before .before .before .before .before .before .before .p3 .given .0 .0) 0 ((held h) .cabinets)) (sym (c .before .before .before .before .before .before .before .before .before .keeps-older .ensures) ∙ (c .before .before .before .before .before .before .before .before .if7 .taken)) (ap (λ (z : ℕ). getD ((held h) .cabinets) (c .before .before .before .before .before .before .before .before .before .before .before .before .before .p3 .given .0 .0) noCabinet .marked || ltb z ((held h) .plan .r)) (sym (c .before .before .before .before .before .before .others-marked .ensures)) ∙ sym (c .before .before .before .before .before .may-roll .ensures) ∙ (c .before .before .before .before .if8 .left)))))
+    (c .before .before .refuse9 .ensures .0)
+    (c .before .before .refuse9 .ensures .1)
 
 refuse-requires-10 : tie.Need-refuse-requires-10 Inv-loop2 μ-loop2 Inv-loop μ-loop
-refuse-requires-10 c κs = taking-room (c .before .before .before .before .before .before .before .before .before .before .before .before .before .before .before .before .args .s .now) (c .before .before .before .before .before .before .before .before .before .before .before .before .before .loop .i) ((c .before .before .before .before .before .before .before .before .before .before .before .before .find .result) .end) ((c .before .before .before .before .before .before .before .before .before .before .before .before .find .result) .step) (c .before .before .before .before .before .before .before .before .before .before .if1 .left) ((c .before .before .before .before .before .before .before .before .before .before .before .before .find .ensures .0 .1)) ((c .before .before .before .before .before .before .before .before .before .before .before .before .find .ensures .1 .1) (c .before .before .before .before .before .before .before .before .before .before .if1 .left)) (c .before .before .before .before .before .before .before .before .before .before .before .before .before .before .before .before .args .at) (c .before .before .before .before .before .before .before .before .before .before .before .before .before .before .before .before .args .row) (c .before .before .before .before .before .before .before .before .before .before .before .before .before .before .before .before .args .t5) (c .before .before .before .before .before .before .before .before .before .before .before .before .before .before .before .before .args .out .now) (c .before .before .before .before .before .before .before .before .before .before .before .before .before .loop .out) (c .before .before .before .before .before .before .before .before .before .before .before .before .before .loop .o) (c .before .before .before .before .before .before .before .before .before .before .before .before .before .loop .n) (c .before .before .before .before .before .before .before .before .before .before .before .before .before .loop .run) (c .before .before .before .before .before .before .before .before .before .before .before .before .before .loop .inv)
+refuse-requires-10 c κs = room (c .before .before .before .before .before .before .before .before)
 
 loop-less-24 : tie.Need-loop-less-24 Inv-loop2 μ-loop2 Inv-loop μ-loop
-loop-less-24 c = omega (arith, (c .before .before .before .before .before .before .before .before .before .before .before .before .before .if1 .left), (c .before .before .before .before .before .before .before .before .before .before .before .before .before .before .before .find .ensures .0 .1))
+loop-less-24 c = shorter (c .before .before .before .before .before .before .before .before .before .before .before)
 
 loop-again-24 : tie.Need-loop-again-24 Inv-loop2 μ-loop2 Inv-loop μ-loop
 unfolding changed
-loop-again-24 c = taking-next (c .before .before .before .before .before .before .before .before .before .before .before .before .before .before .before .before .before .before .before .args .s .now) (c .before .before .before .before .before .before .before .before .before .before .before .before .before .before .before .before .loop .i) ((c .before .before .before .before .before .before .before .before .before .before .before .before .before .before .before .find .result) .end) ((c .before .before .before .before .before .before .before .before .before .before .before .before .before .before .before .find .result) .step) (c .before .before .before .before .before .before .before .before .before .before .before .before .before .if1 .left) ((c .before .before .before .before .before .before .before .before .before .before .before .before .before .before .before .find .ensures .0 .1)) ((c .before .before .before .before .before .before .before .before .before .before .before .before .before .before .before .find .ensures .1 .1) (c .before .before .before .before .before .before .before .before .before .before .before .before .before .if1 .left)) (c .before .before .before .before .before .before .before .before .before .before .before .before .before .before .before .before .before .before .before .args .at) (c .before .before .before .before .before .before .before .before .before .before .before .before .before .before .before .before .before .before .before .args .row) (c .before .before .before .before .before .before .before .before .before .before .before .before .before .before .before .before .before .before .before .args .t5) (c .before .before .before .before .before .before .before .before .before .before .before .before .before .before .before .before .before .before .before .args .out .now) (c .before .before .before .before .before .before .before .before .before .before .before .before .before .before .before .before .loop .out) (c .before .before .before .before .before .before .before .before .before .before .before .before .before .before .before .before .loop .o) (c .before .before .before .before .before .before .before .before .before .before .before .before .before .before .before .before .loop .n) (c .before .before .before .before .before .before .before .before .before .before .before .before .before .before .before .before .loop .run) (c .before .before .before .before .before .before .before .before .before .before .before .before .before .before .before .before .loop .inv) _ _ _ (sym (turn (c .before .before .before .before .before .before .before .before .before .before .before .before .before .before .before .before .loop .run) ((c .before .before .before .before .before .before .before .before .before .before .before .before .before .before .before .find .result) .step) ((c .before .before .before .before .before .before .before .before .before .before .before .before .before .before .before .before .loop .inv .sound)) (c .before .before .before .before .before .before .before .before .before .before .before .admit .result) _ (c .before .before .before .before .before .before .before .before .before .before .before .admit .ensures) (c .before .before .before .before .before .before .before .before .before .p3 .given .1) _ (decide-rolls (c .before .before .before .before .before .before .before .before .before .before .before .before .before .before .before .before .loop .run) _ _ ∙ sym (rolls-none ((c .before .before .before .before .before .before .before .before .before .before .before .before .before .before .before .before .loop .run) .plan) ((c .before .before .before .before .before .before .before .before .before .p3 .given .0 .0)) ((c .before .before .before .before .before .before .before .before .before .p3 .given .0 .1 .0)) (sightOf (getD ((c .before .before .before .before .before .before .before .before .before .before .before .before .before .before .before .before .loop .run) .cabinets) ((c .before .before .before .before .before .before .before .before .before .p3 .given .0 .0)) noCabinet)) (othersFrom ((c .before .before .before .before .before .before .before .before .before .p3 .given .0 .0)) 0 ((c .before .before .before .before .before .before .before .before .before .before .before .before .before .before .before .before .loop .run) .cabinets)) (sym (c .before .before .before .before .before .keeps-older .ensures) ∙ (c .before .before .before .before .if7 .left)))))) ((c .before .before .refuse10 .ensures .0)) ((c .before .before .refuse10 .ensures .1))
+loop-again-24 c =
+    let h = c .before .before .before .before .before .before .before .before .before .before .before in
+    next h _ _ _
+    (admitted h _ (c .before .before .before .before .before .before .before .before .before .p3 .given .1) _
+    (decide-rolls (held h) _ _
+    ∙ sym (rolls-none ((held h) .plan) (c .before .before .before .before .before .before .before .before .before .p3 .given .0 .0) (c .before .before .before .before .before .before .before .before .before .p3 .given .0 .1 .0) (sightOf (getD ((held h) .cabinets) (c .before .before .before .before .before .before .before .before .before .p3 .given .0 .0) noCabinet)) (othersFrom (c .before .before .before .before .before .before .before .before .before .p3 .given .0 .0) 0 ((held h) .cabinets)) (sym (c .before .before .before .before .before .keeps-older .ensures) ∙ (c .before .before .before .before .if7 .left)))))
+    (c .before .before .refuse10 .ensures .0)
+    (c .before .before .refuse10 .ensures .1)
 
 same-length : tie.Need-same-length Inv-loop2 μ-loop2 Inv-loop μ-loop
 same-length c = (c .before .before .before .loop .inv .same)
 
 returns : tie.Need-returns Inv-loop2 μ-loop2 Inv-loop μ-loop
-returns c = taking-end (c .before .before .before .before .before .before .args .s .now) (c .before .before .before .before .before .before .args .at) (c .before .before .before .before .before .before .args .row) (c .before .before .before .before .before .before .args .t5) (c .before .before .before .before .before .before .args .out .now) (c .before .before .before .loop .i) (c .before .before .before .loop .out) (c .before .before .before .loop .o) (c .before .before .before .loop .n) (c .before .before .before .loop .run) (c .before .before .before .loop .inv) ((c .before .before .find .ensures .1 .0) (c .if1 .taken))
+returns c =
+    taking-end (c .before .before .before .before .before .before .args .s .now) (c .before .before .before .before .before .before .args .at) (c .before .before .before .before .before .before .args .row) (c .before .before .before .before .before .before .args .t5) (c .before .before .before .before .before .before .args .out .now) (c .before .before .before .loop .i) (c .before .before .before .loop .out) (c .before .before .before .loop .o) (c .before .before .before .loop .n) (c .before .before .before .loop .run) (c .before .before .before .loop .inv) ((c .before .before .find .ensures .1 .0) (c .if1 .taken))
 
 pub steps-spec : {M : Type 1} → statement M
 steps-spec =
