@@ -1,12 +1,16 @@
 -- `rows::bytes::feed` meets its contract: the bytes before the first whole step row, the whole rows, and the bytes behind them. Assumes nothing.
-use Rattle.rows.specs.Machine.{machOf}
+use Rattle.rows.specs.Machine.{Mach, machOf, atStep}
 use Rattle.rows.proofs.WholeLaws.{whole-at}
 use Rattle.rows.proofs.TookLaws.{step-sound, all-led, fed-on}
+use Rattle.run.specs.Undamaged.{undamaged}
+use Rattle.text.specs.Ends.{breaks}
 use Rattle.text.proofs.BreakLaws.{part-all, rest-most}
 use mathlib.Core.Path.{_≡_, sym, _∙_}
 use lib.Seq.{take-all}
 use lib.ListN.{length, take, drop}
-use Prim.Native.Nat.{_-_}
+use mathlib.Core.Bool.{true}
+use mathlib.Core.List.{List}
+use Prim.Native.Nat.{ℕ, _+_, _-_, _*_, _^_, _≤_, _<_}
 use native.Mathlib.Omega.{arith}
 use borrow.Author.Needs.{needs}
 use Rattle.rows.proofs.bytes.feed.Statement.{statement}
@@ -27,8 +31,49 @@ part-rest-end c = search needs
 at-step-requires : tie.Need-at-step-requires
 at-step-requires c κs = search needs
 
+-- ---- the place behind at_step: the call, what lead made of its first bytes, and what is left
+
+abbrev Here : Type 0
+Here = tie.After-at-step
+
+abbrev call : Here → tie.Start
+call h = h .before .before .before .before .before .before .before .before .before .before .before
+
+abbrev leads : Here → tie.After-lead
+leads h = h .before .before .before .before .before .before
+
+abbrev before : Here → Mach
+before h = machOf (call h .args .kept) (call h .args .line .now) (call h .args .run)
+
+abbrev rest : Here → List ℕ
+rest h = take (length (call h .args .s .now) - leads h .lead .result .used) (drop (leads h .lead .result .used) (call h .args .s .now))
+
+-- where steps are due, the run is undamaged
+abbrev Due : Here → Type 0
+Due h = atStep (leads h .lead .result .kept .phase) (leads h .lead .result .kept .len) ≡ true
+
+sound : (h : Here) → Due h → undamaged (leads h .lead .result .run) ≡ true
+sound h due =
+    let whole = whole-at (before h) _ (take (leads h .lead .result .used) (call h .args .s .now)) (call h .pre .1 .1) (leads h .lead .ensures .0) in
+    step-sound (leads h .lead .result .kept .phase) (leads h .lead .result .kept .len) (leads h .lead .result .run) due (whole .0)
+
+-- the rows that are left have room and numbers
+fits : (h : Here) → leads h .lead .result .kept .at + 69 * breaks (rest h) ≤ length (call h .args .out .now)
+fits h =
+    let most = rest-most (call h .args .s .now) (leads h .lead .result .used) in
+    omega (arith, most, leads h .lead .ensures .1 .1 .1 .0 .0, leads h .lead .ensures .1 .1 .1 .1 .0, call h .pre .0)
+
+counted : (h : Here) → leads h .lead .result .kept .row + breaks (rest h) < 2 ^ 64
+counted h =
+    let most = rest-most (call h .args .s .now) (leads h .lead .result .used) in
+    omega (arith, most, leads h .lead .ensures .1 .1 .1 .0 .1, leads h .lead .ensures .1 .1 .1 .1 .0, call h .pre .1 .0)
+
+-- ---- the needs that rest on it
+
 steps-requires : tie.Need-steps-requires
-steps-requires c κs = let o = rest-most (c .before .before .before .before .before .before .before .before .before .before .before .before .before .args .s .now) (c .before .before .before .before .before .before .before .before .lead .result .used) in (omega (arith, o, c .before .before .before .before .before .before .before .before .lead .ensures .1 .1 .1 .0 .0, c .before .before .before .before .before .before .before .before .lead .ensures .1 .1 .1 .0 .1, c .before .before .before .before .before .before .before .before .lead .ensures .1 .1 .1 .1 .0, c .before .before .before .before .before .before .before .out .given, c .before .before .before .before .before .before .before .before .before .before .before .before .before .pre .0, c .before .before .before .before .before .before .before .before .before .before .before .before .before .pre .1 .0), (omega (arith, o, c .before .before .before .before .before .before .before .before .lead .ensures .1 .1 .1 .0 .0, c .before .before .before .before .before .before .before .before .lead .ensures .1 .1 .1 .0 .1, c .before .before .before .before .before .before .before .before .lead .ensures .1 .1 .1 .1 .0, c .before .before .before .before .before .before .before .out .given, c .before .before .before .before .before .before .before .before .before .before .before .before .before .pre .0, c .before .before .before .before .before .before .before .before .before .before .before .before .before .pre .1 .0), step-sound (c .before .before .before .before .before .before .before .before .lead .result .kept .phase) (c .before .before .before .before .before .before .before .before .lead .result .kept .len) (c .before .before .before .before .before .before .before .before .lead .result .run) (sym (c .before .before .at-step .ensures) ∙ c .before .if1 .taken) (whole-at (machOf (c .before .before .before .before .before .before .before .before .before .before .before .before .before .args .kept) (c .before .before .before .before .before .before .before .before .before .before .before .before .before .args .line .now) (c .before .before .before .before .before .before .before .before .before .before .before .before .before .args .run)) _ (take (c .before .before .before .before .before .before .before .before .lead .result .used) (c .before .before .before .before .before .before .before .before .before .before .before .before .before .args .s .now)) (c .before .before .before .before .before .before .before .before .before .before .before .before .before .pre .1 .1) (c .before .before .before .before .before .before .before .before .lead .ensures .0) .0)))
+steps-requires c κs =
+    let h = c .before .before in
+    (omega (arith, fits h, h .before .before .before .before .before .out .given), (counted h, sound h (sym (h .at-step .ensures) ∙ c .before .if1 .taken)))
 
 sub-hold : tie.Need-sub-hold
 sub-hold c = search needs
@@ -40,19 +85,54 @@ part-hold-end : tie.Need-part-hold-end
 part-hold-end c = search needs
 
 hold-requires : tie.Need-hold-requires
-hold-requires c κs = rw (part-all (take (length (c .before .before .before .before .before .before .before .before .before .before .before .before .before .before .before .before .before .before .before .args .s .now) - c .before .before .before .before .before .before .before .before .before .before .before .before .before .before .lead .result .used) (drop (c .before .before .before .before .before .before .before .before .before .before .before .before .before .before .lead .result .used) (c .before .before .before .before .before .before .before .before .before .before .before .before .before .before .before .before .before .before .before .args .s .now))) (c .before .before .before .before .before .steps .result .used)) (c .before .before .before .before .before .steps .ensures .rest)
+hold-requires c κs = let h = c .before .before .before .before .before .before .before .before in rw (part-all (rest h) (c .before .before .before .before .before .steps .result .used)) (c .before .before .before .before .before .steps .ensures .rest)
 
 same-length : tie.Need-same-length
 same-length c = search needs
 
 returns : tie.Need-returns
-returns c = let o = rest-most (c .before .before .before .before .before .before .before .before .before .before .before .before .before .before .before .before .before .before .before .before .args .s .now) (c .before .before .before .before .before .before .before .before .before .before .before .before .before .before .before .lead .result .used) in let q = fed-on (machOf (c .before .before .before .before .before .before .before .before .before .before .before .before .before .before .before .before .before .before .before .before .args .kept) (c .before .before .before .before .before .before .before .before .before .before .before .before .before .before .before .before .before .before .before .before .args .line .now) (c .before .before .before .before .before .before .before .before .before .before .before .before .before .before .before .before .before .before .before .before .args .run)) (c .before .before .before .before .before .before .before .before .before .before .before .before .before .before .before .before .before .before .before .before .args .s .now) (c .before .before .before .before .before .before .before .before .before .before .before .before .before .before .before .lead .result .used) (c .before .before .before .before .before .before .before .before .before .before .before .before .before .before .before .lead .result .kept) _ _ (c .before .before .before .before .before .before .before .before .before .before .before .before .before .before .before .lead .result .run) (c .before .before .before .before .before .before .steps .result) (c .before .before .before .before .before .before .before .before .before .before .before .before .before .before .before .before .before .before .before .before .args .out .now) _ _ (c .before .before .before .before .before .before .before .before .before .before .before .before .before .before .before .before .before .before .before .before .args .kept .at) (c .hold .result) (take (length (c .before .before .before .before .before .before .before .before .before .before .before .before .before .before .before .before .before .before .before .before .args .s .now) - c .before .before .before .before .before .before .before .before .before .before .before .before .before .before .before .lead .result .used) (drop (c .before .before .before .before .before .before .before .before .before .before .before .before .before .before .before .lead .result .used) (c .before .before .before .before .before .before .before .before .before .before .before .before .before .before .before .before .before .before .before .before .args .s .now))) _ (part-all (c .before .before .before .before .before .before .before .before .before .before .before .before .before .before .before .before .before .before .before .before .args .s .now) (c .before .before .before .before .before .before .before .before .before .before .before .before .before .before .before .lead .result .used)) (part-all (take (length (c .before .before .before .before .before .before .before .before .before .before .before .before .before .before .before .before .before .before .before .before .args .s .now) - c .before .before .before .before .before .before .before .before .before .before .before .before .before .before .before .lead .result .used) (drop (c .before .before .before .before .before .before .before .before .before .before .before .before .before .before .before .lead .result .used) (c .before .before .before .before .before .before .before .before .before .before .before .before .before .before .before .before .before .before .before .before .args .s .now))) (c .before .before .before .before .before .before .steps .result .used)) (c .before .before .before .before .before .before .before .before .before .before .before .before .before .before .before .lead .ensures .0) (c .before .before .before .before .before .before .before .before .before .before .before .before .before .before .before .lead .ensures .1 .0, c .before .before .before .before .before .before .before .before .before .before .before .before .before .before .before .lead .ensures .1 .1 .0) (sym (c .before .before .before .before .before .before .before .before .before .at-step .ensures) ∙ c .before .before .before .before .before .before .before .before .if1 .taken) (step-sound (c .before .before .before .before .before .before .before .before .before .before .before .before .before .before .before .lead .result .kept .phase) (c .before .before .before .before .before .before .before .before .before .before .before .before .before .before .before .lead .result .kept .len) (c .before .before .before .before .before .before .before .before .before .before .before .before .before .before .before .lead .result .run) (sym (c .before .before .before .before .before .before .before .before .before .at-step .ensures) ∙ c .before .before .before .before .before .before .before .before .if1 .taken) (whole-at (machOf (c .before .before .before .before .before .before .before .before .before .before .before .before .before .before .before .before .before .before .before .before .args .kept) (c .before .before .before .before .before .before .before .before .before .before .before .before .before .before .before .before .before .before .before .before .args .line .now) (c .before .before .before .before .before .before .before .before .before .before .before .before .before .before .before .before .before .before .before .before .args .run)) _ (take (c .before .before .before .before .before .before .before .before .before .before .before .before .before .before .before .lead .result .used) (c .before .before .before .before .before .before .before .before .before .before .before .before .before .before .before .before .before .before .before .before .args .s .now)) (c .before .before .before .before .before .before .before .before .before .before .before .before .before .before .before .before .before .before .before .before .pre .1 .1) (c .before .before .before .before .before .before .before .before .before .before .before .before .before .before .before .lead .ensures .0) .0)) (c .before .before .before .before .before .before .steps .ensures) (c .hold .ensures) (omega (arith, c .before .before .before .before .before .before .before .before .before .before .before .before .before .before .before .before .before .before .before .before .pre .0)) in (q .0, (q .1 .0, (q .1 .1, ((omega (arith, o, c .before .before .before .before .before .before .before .before .before .before .before .before .before .before .before .lead .ensures .1 .1 .1 .0 .0, c .before .before .before .before .before .before .before .before .before .before .before .before .before .before .before .lead .ensures .1 .1 .1 .0 .1, c .before .before .before .before .before .before .before .before .before .before .before .before .before .before .before .lead .ensures .1 .1 .1 .1 .0, c .before .before .before .before .before .before .before .before .before .before .before .before .before .before .out .given, c .before .before .before .before .before .before .before .before .before .before .before .before .before .before .before .before .before .before .before .before .pre .0, c .before .before .before .before .before .before .before .before .before .before .before .before .before .before .before .before .before .before .before .before .pre .1 .0, c .before .before .before .before .before .before .steps .ensures .room), omega (arith, o, c .before .before .before .before .before .before .before .before .before .before .before .before .before .before .before .lead .ensures .1 .1 .1 .0 .0, c .before .before .before .before .before .before .before .before .before .before .before .before .before .before .before .lead .ensures .1 .1 .1 .0 .1, c .before .before .before .before .before .before .before .before .before .before .before .before .before .before .before .lead .ensures .1 .1 .1 .1 .0, c .before .before .before .before .before .before .before .before .before .before .before .before .before .before .out .given, c .before .before .before .before .before .before .before .before .before .before .before .before .before .before .before .before .before .before .before .before .pre .0, c .before .before .before .before .before .before .before .before .before .before .before .before .before .before .before .before .before .before .before .before .pre .1 .0, c .before .before .before .before .before .before .steps .ensures .rows)), whole-at (machOf (c .before .before .before .before .before .before .before .before .before .before .before .before .before .before .before .before .before .before .before .before .args .kept) (c .before .before .before .before .before .before .before .before .before .before .before .before .before .before .before .before .before .before .before .before .args .line .now) (c .before .before .before .before .before .before .before .before .before .before .before .before .before .before .before .before .before .before .before .before .args .run)) _ (c .before .before .before .before .before .before .before .before .before .before .before .before .before .before .before .before .before .before .before .before .args .s .now) (c .before .before .before .before .before .before .before .before .before .before .before .before .before .before .before .before .before .before .before .before .pre .1 .1) (q .0)))))
+returns c =
+    let h = c .before .before .before .before .before .before .before .before .before in
+    let due : Due h = sym (h .at-step .ensures) ∙ c .before .before .before .before .before .before .before .before .if1 .taken in
+    let v = leads h .lead .ensures in
+    let t = c .before .before .before .before .before .before .steps .ensures in
+    let most = rest-most (call h .args .s .now) (leads h .lead .result .used) in
+    let q =
+    fed-on (before h) (call h .args .s .now) (leads h .lead .result .used) (leads h .lead .result .kept) _ _ (leads h .lead .result .run) (c .before .before .before .before .before .before .steps .result)
+    (call h .args .out .now) _ _ (call h .args .kept .at) (c .hold .result) (rest h) _
+    (part-all (call h .args .s .now) (leads h .lead .result .used)) (part-all (rest h) (c .before .before .before .before .before .before .steps .result .used))
+    (v .0) (v .1 .0, v .1 .1 .0) due (sound h due) t (c .hold .ensures) (omega (arith, call h .pre .0)) in (
+      q .0,
+      (
+        q .1 .0,
+        (
+          q .1 .1,
+          (
+            (omega (arith, most, v .1 .1 .1 .0 .0, v .1 .1 .1 .1 .0, t .room), omega (arith, most, v .1 .1 .1 .0 .1, v .1 .1 .1 .1 .0, t .rows)),
+            whole-at (before h) _ (call h .args .s .now) (call h .pre .1 .1) (q .0),
+          ),
+        ),
+      ),
+    )
 
 same-length-2 : tie.Need-same-length-2
 same-length-2 c = search needs
 
 returns-2 : tie.Need-returns-2
-returns-2 c = let e : take (c .before .before .before .before .before .before .before .lead .result .used) (c .before .before .before .before .before .before .before .before .before .before .before .before .args .s .now) ≡ c .before .before .before .before .before .before .before .before .before .before .before .before .args .s .now = take-all (c .before .before .before .before .before .before .before .lead .result .used) (c .before .before .before .before .before .before .before .before .before .before .before .before .args .s .now) (all-led _ _ _ (sym (c .before .at-step .ensures) ∙ c .if1 .left) (c .before .before .before .before .before .before .before .lead .ensures .1 .1 .1 .1 .1)) in let q = rw e at (c .before .before .before .before .before .before .before .lead .ensures .0) in (q, (rw e at (c .before .before .before .before .before .before .before .lead .ensures .1 .0), (rw e at (c .before .before .before .before .before .before .before .lead .ensures .1 .1 .0), ((omega (arith, c .before .before .before .before .before .before .before .lead .ensures .1 .1 .1 .0 .0, c .before .before .before .before .before .before .before .lead .ensures .1 .1 .1 .1 .0), omega (arith, c .before .before .before .before .before .before .before .lead .ensures .1 .1 .1 .0 .1, c .before .before .before .before .before .before .before .lead .ensures .1 .1 .1 .1 .0)), whole-at (machOf (c .before .before .before .before .before .before .before .before .before .before .before .before .args .kept) (c .before .before .before .before .before .before .before .before .before .before .before .before .args .line .now) (c .before .before .before .before .before .before .before .before .before .before .before .before .args .run)) _ (c .before .before .before .before .before .before .before .before .before .before .before .before .args .s .now) (c .before .before .before .before .before .before .before .before .before .before .before .before .pre .1 .1) q))))
+returns-2 c =
+    let h = c .before in
+    let v = leads h .lead .ensures in
+    let all = take-all (leads h .lead .result .used) (call h .args .s .now) (all-led _ _ _ (sym (h .at-step .ensures) ∙ c .if1 .left) (v .1 .1 .1 .1 .1)) in
+    let q = rw all at (v .0) in (
+      q,
+      (
+        rw all at (v .1 .0),
+        (
+          rw all at (v .1 .1 .0),
+          ((omega (arith, v .1 .1 .1 .0 .0, v .1 .1 .1 .1 .0), omega (arith, v .1 .1 .1 .0 .1, v .1 .1 .1 .1 .0)), whole-at (before h) _ (call h .args .s .now) (call h .pre .1 .1) q),
+        ),
+      ),
+    )
 
 pub feed-spec : {M : Type 1} → statement M
 feed-spec =

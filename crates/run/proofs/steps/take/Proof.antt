@@ -1,14 +1,18 @@
 -- `take` meets its contract: what it gathers is what the definition gathers, and what it puts back is the step. Assumes nothing.
 use borrow.Author.Needs.{needs}
-use mathlib.Core.Path.{sym, ap, _∙_}
+use mathlib.Core.Path.{_≡_, sym, ap, _∙_}
 use native.Mathlib.Omega.{arith}
+use Rattle.parts.specs.declared.answer.Decision.{Decision}
 use Rattle.parts.specs.declared.answer.Decision.the-variants.{Yes}
+use Rattle.parts.specs.declared.step.Step.{Step}
 use Rattle.run.proofs.FitLaws.{steps-most}
 use Rattle.run.proofs.FrameLaws.{step-damaged}
+use Rattle.run.proofs.PlaceLaws.{DecidedIn}
 use Rattle.run.proofs.TakeLaws.{slot-in, client-in, cabinet-in, fits, took, placed, cabinet-put, offering-put}
 use Rattle.run.proofs.steps.take.Statement.{statement}
 use Rattle.run.proofs.steps.take.Tie as tie
-use Rattle.run.specs.Steps.{changed}
+use Rattle.run.specs.Steps.{changed, putBack, stepOf}
+use Rattle.run.specs.declared.Run.{Run}
 
 undamaged-requires : tie.Need-undamaged-requires
 undamaged-requires c κs = search needs
@@ -61,11 +65,33 @@ sight-requires c κs = search needs
 judge-requires : tie.Need-judge-requires
 judge-requires c κs = fits (c .before .before .before .before .before .before .before .before .before .before .before .before .before .before .before .before .args .t1) (c .before .before .before .before .before .before .before .before .before .before .before .before .before .before .before .before .args .s) (sym (c .before .before .before .before .before .before .before .before .before .before .before .before .before .before .before .undamaged .ensures) ∙ (c .before .before .before .before .before .before .before .before .before .before .before .before .before .before .if1 .taken)) (c .before .before .before .before .before .before .before .before .before .before .admit .result) (c .before .before .before .before .before .before .before .before .before .before .admit .ensures) (c .before .before .before .before .before .before .before .slot-of .result) (c .before .before .before .before .before .before .before .slot-of .ensures) (c .before .before .before .before .before .aim-of .result) (c .before .before .before .before .before .aim-of .ensures)
 
+-- ---- the place behind the decision: what it rests on, named once
+
+abbrev before : tie.After-judge → Run
+before j = j .before .before .before .before .before .before .before .before .before .before .before .before .before .before .before .before .before .args .t1
+
+abbrev asked : tie.After-judge → Step
+asked j = j .before .before .before .before .before .before .before .before .before .before .before .before .before .before .before .before .before .args .s
+
+took-at : (j : tie.After-judge) (x : Decision) → j .judge .result ≡ x → putBack (before j) x ≡ stepOf (before j) (asked j)
+took-at j =
+    took (before j) (asked j) (sym (j .before .before .before .before .before .before .before .before .before .before .before .before .before .before .before .before .undamaged .ensures) ∙ j .before .before .before .before .before .before .before .before .before .before .before .before .before .before .before .if1 .taken) (j .before .before .before .before .before .before .before .before .before .before .before .admit .result) (j .before .before .before .before .before .before .before .before .before .before .before .admit .ensures) (j .before .before .before .before .before .before .before .before .slot-of .result) (j .before .before .before .before .before .before .before .before .slot-of .ensures)
+    (j .before .before .before .before .before .before .aim-of .result) (j .before .before .before .before .before .before .aim-of .ensures) (j .before .before .before .before .before .before .before .before .before .before .free-for .result) (j .before .before .before .before .before .before .before .before .before .others-for .result) (j .before .sight .result) (j .judge .result) (j .before .before .before .before .before .before .before .before .before .before .free-for .ensures)
+    (j .before .before .before .before .before .before .before .before .before .others-for .ensures) (j .before .sight .ensures) (j .judge .ensures)
+
+placed-at : (j : tie.After-judge) (x : Decision) → j .judge .result ≡ x → DecidedIn x
+placed-at j =
+    placed (before j) (asked j) (sym (j .before .before .before .before .before .before .before .before .before .before .before .before .before .before .before .before .undamaged .ensures) ∙ j .before .before .before .before .before .before .before .before .before .before .before .before .before .before .before .if1 .taken) (j .before .before .before .before .before .before .before .before .before .before .before .admit .result) (j .before .before .before .before .before .before .before .before .before .before .before .admit .ensures) (j .before .before .before .before .before .before .before .before .slot-of .result) (j .before .before .before .before .before .before .before .before .slot-of .ensures)
+    (j .before .before .before .before .before .before .aim-of .result) (j .before .before .before .before .before .before .aim-of .ensures) (j .before .before .before .before .before .before .before .before .before .before .free-for .result) (j .before .before .before .before .before .before .before .before .before .others-for .result) (j .before .sight .result) (j .judge .result) (j .before .before .before .before .before .before .before .before .before .before .free-for .ensures)
+    (j .before .before .before .before .before .before .before .before .before .others-for .ensures) (j .before .sight .ensures) (j .judge .ensures)
+
+-- ---- the needs that rest on it
+
 enum-known-why : tie.Need-enum-known-why
 enum-known-why c = search needs
 
 returns : tie.Need-returns
-returns c = took (c .before .before .before .before .before .before .before .before .before .before .before .before .before .before .before .before .before .before .before .before .args .t1) (c .before .before .before .before .before .before .before .before .before .before .before .before .before .before .before .before .before .before .before .before .args .s) (sym (c .before .before .before .before .before .before .before .before .before .before .before .before .before .before .before .before .before .before .before .undamaged .ensures) ∙ (c .before .before .before .before .before .before .before .before .before .before .before .before .before .before .before .before .before .before .if1 .taken)) (c .before .before .before .before .before .before .before .before .before .before .before .before .before .before .admit .result) (c .before .before .before .before .before .before .before .before .before .before .before .before .before .before .admit .ensures) (c .before .before .before .before .before .before .before .before .before .before .before .slot-of .result) (c .before .before .before .before .before .before .before .before .before .before .before .slot-of .ensures) (c .before .before .before .before .before .before .before .before .before .aim-of .result) (c .before .before .before .before .before .before .before .before .before .aim-of .ensures) (c .before .before .before .before .before .before .before .before .before .before .before .before .before .free-for .result) (c .before .before .before .before .before .before .before .before .before .before .before .before .others-for .result) (c .before .before .before .before .sight .result) (c .before .before .before .judge .result) (c .before .before .before .before .before .before .before .before .before .before .before .before .before .free-for .ensures) (c .before .before .before .before .before .before .before .before .before .before .before .before .others-for .ensures) (c .before .before .before .before .sight .ensures) (c .before .before .before .judge .ensures) _ (c .before .why .given .1)
+returns c = took-at (c .before .before .before) _ (c .before .why .given .1)
 
 enum-known-o : tie.Need-enum-known-o
 enum-known-o c = search needs
@@ -83,7 +109,7 @@ mul-next : tie.Need-mul-next
 mul-next c = search needs
 
 element-set-from-next : tie.Need-element-set-from-next
-element-set-from-next c = placed (c .before .before .before .before .before .before .before .before .before .before .before .before .before .before .before .before .before .before .before .before .before .before .before .args .t1) (c .before .before .before .before .before .before .before .before .before .before .before .before .before .before .before .before .before .before .before .before .before .before .before .args .s) (sym (c .before .before .before .before .before .before .before .before .before .before .before .before .before .before .before .before .before .before .before .before .before .before .undamaged .ensures) ∙ (c .before .before .before .before .before .before .before .before .before .before .before .before .before .before .before .before .before .before .before .before .before .if1 .taken)) (c .before .before .before .before .before .before .before .before .before .before .before .before .before .before .before .before .before .admit .result) (c .before .before .before .before .before .before .before .before .before .before .before .before .before .before .before .before .before .admit .ensures) (c .before .before .before .before .before .before .before .before .before .before .before .before .before .before .slot-of .result) (c .before .before .before .before .before .before .before .before .before .before .before .before .before .before .slot-of .ensures) (c .before .before .before .before .before .before .before .before .before .before .before .before .aim-of .result) (c .before .before .before .before .before .before .before .before .before .before .before .before .aim-of .ensures) (c .before .before .before .before .before .before .before .before .before .before .before .before .before .before .before .before .free-for .result) (c .before .before .before .before .before .before .before .before .before .before .before .before .before .before .before .others-for .result) (c .before .before .before .before .before .before .before .sight .result) (c .before .before .before .before .before .before .judge .result) (c .before .before .before .before .before .before .before .before .before .before .before .before .before .before .before .before .free-for .ensures) (c .before .before .before .before .before .before .before .before .before .before .before .before .before .before .before .others-for .ensures) (c .before .before .before .before .before .before .before .sight .ensures) (c .before .before .before .before .before .before .judge .ensures) _ ((c .before .before .before .before .o .given .1) ∙ ap (Yes (c .before .before .before .before .o .given .0 .0)) (c .before .x .given .1))
+element-set-from-next c = placed-at (c .before .before .before .before .before .before) _ ((c .before .before .before .before .o .given .1) ∙ ap (Yes (c .before .before .before .before .o .given .0 .0)) (c .before .x .given .1))
 
 enum-known-x-2 : tie.Need-enum-known-x-2
 enum-known-x-2 c = search needs
@@ -95,7 +121,7 @@ mul-held : tie.Need-mul-held
 mul-held c = search needs
 
 element-set-from-held : tie.Need-element-set-from-held
-element-set-from-held c = placed (c .before .before .before .before .before .before .before .before .before .before .before .before .before .before .before .before .before .before .before .before .before .before .before .args .t1) (c .before .before .before .before .before .before .before .before .before .before .before .before .before .before .before .before .before .before .before .before .before .before .before .args .s) (sym (c .before .before .before .before .before .before .before .before .before .before .before .before .before .before .before .before .before .before .before .before .before .before .undamaged .ensures) ∙ (c .before .before .before .before .before .before .before .before .before .before .before .before .before .before .before .before .before .before .before .before .before .if1 .taken)) (c .before .before .before .before .before .before .before .before .before .before .before .before .before .before .before .before .before .admit .result) (c .before .before .before .before .before .before .before .before .before .before .before .before .before .before .before .before .before .admit .ensures) (c .before .before .before .before .before .before .before .before .before .before .before .before .before .before .slot-of .result) (c .before .before .before .before .before .before .before .before .before .before .before .before .before .before .slot-of .ensures) (c .before .before .before .before .before .before .before .before .before .before .before .before .aim-of .result) (c .before .before .before .before .before .before .before .before .before .before .before .before .aim-of .ensures) (c .before .before .before .before .before .before .before .before .before .before .before .before .before .before .before .before .free-for .result) (c .before .before .before .before .before .before .before .before .before .before .before .before .before .before .before .others-for .result) (c .before .before .before .before .before .before .before .sight .result) (c .before .before .before .before .before .before .judge .result) (c .before .before .before .before .before .before .before .before .before .before .before .before .before .before .before .before .free-for .ensures) (c .before .before .before .before .before .before .before .before .before .before .before .before .before .before .before .others-for .ensures) (c .before .before .before .before .before .before .before .sight .ensures) (c .before .before .before .before .before .before .judge .ensures) _ ((c .before .before .before .before .o .given .1) ∙ ap (Yes (c .before .before .before .before .o .given .0 .0)) (c .before .x2 .given .1))
+element-set-from-held c = placed-at (c .before .before .before .before .before .before) _ ((c .before .before .before .before .o .given .1) ∙ ap (Yes (c .before .before .before .before .o .given .0 .0)) (c .before .x2 .given .1))
 
 enum-known-x-3 : tie.Need-enum-known-x-3
 enum-known-x-3 c = search needs
@@ -107,7 +133,7 @@ mul-before : tie.Need-mul-before
 mul-before c = search needs
 
 element-copy-out-before : tie.Need-element-copy-out-before
-element-copy-out-before c = placed (c .before .before .before .before .before .before .before .before .before .before .before .before .before .before .before .before .before .before .before .before .before .before .before .args .t1) (c .before .before .before .before .before .before .before .before .before .before .before .before .before .before .before .before .before .before .before .before .before .before .before .args .s) (sym (c .before .before .before .before .before .before .before .before .before .before .before .before .before .before .before .before .before .before .before .before .before .before .undamaged .ensures) ∙ (c .before .before .before .before .before .before .before .before .before .before .before .before .before .before .before .before .before .before .before .before .before .if1 .taken)) (c .before .before .before .before .before .before .before .before .before .before .before .before .before .before .before .before .before .admit .result) (c .before .before .before .before .before .before .before .before .before .before .before .before .before .before .before .before .before .admit .ensures) (c .before .before .before .before .before .before .before .before .before .before .before .before .before .before .slot-of .result) (c .before .before .before .before .before .before .before .before .before .before .before .before .before .before .slot-of .ensures) (c .before .before .before .before .before .before .before .before .before .before .before .before .aim-of .result) (c .before .before .before .before .before .before .before .before .before .before .before .before .aim-of .ensures) (c .before .before .before .before .before .before .before .before .before .before .before .before .before .before .before .before .free-for .result) (c .before .before .before .before .before .before .before .before .before .before .before .before .before .before .before .others-for .result) (c .before .before .before .before .before .before .before .sight .result) (c .before .before .before .before .before .before .judge .result) (c .before .before .before .before .before .before .before .before .before .before .before .before .before .before .before .before .free-for .ensures) (c .before .before .before .before .before .before .before .before .before .before .before .before .before .before .before .others-for .ensures) (c .before .before .before .before .before .before .before .sight .ensures) (c .before .before .before .before .before .before .judge .ensures) _ ((c .before .before .before .before .o .given .1) ∙ ap (Yes (c .before .before .before .before .o .given .0 .0)) (c .before .x3 .given .1))
+element-copy-out-before c = placed-at (c .before .before .before .before .before .before) _ ((c .before .before .before .before .o .given .1) ∙ ap (Yes (c .before .before .before .before .o .given .0 .0)) (c .before .x3 .given .1))
 
 done-requires : tie.Need-done-requires
 done-requires c κs = search needs
@@ -119,7 +145,7 @@ mul-t64 : tie.Need-mul-t64
 mul-t64 c = search needs
 
 element-set-from-run : tie.Need-element-set-from-run
-element-set-from-run c = placed (c .before .before .before .before .before .before .before .before .before .before .before .before .before .before .before .before .before .before .before .before .before .before .before .before .before .args .t1) (c .before .before .before .before .before .before .before .before .before .before .before .before .before .before .before .before .before .before .before .before .before .before .before .before .before .args .s) (sym (c .before .before .before .before .before .before .before .before .before .before .before .before .before .before .before .before .before .before .before .before .before .before .before .before .undamaged .ensures) ∙ (c .before .before .before .before .before .before .before .before .before .before .before .before .before .before .before .before .before .before .before .before .before .before .before .if1 .taken)) (c .before .before .before .before .before .before .before .before .before .before .before .before .before .before .before .before .before .before .before .admit .result) (c .before .before .before .before .before .before .before .before .before .before .before .before .before .before .before .before .before .before .before .admit .ensures) (c .before .before .before .before .before .before .before .before .before .before .before .before .before .before .before .before .slot-of .result) (c .before .before .before .before .before .before .before .before .before .before .before .before .before .before .before .before .slot-of .ensures) (c .before .before .before .before .before .before .before .before .before .before .before .before .before .before .aim-of .result) (c .before .before .before .before .before .before .before .before .before .before .before .before .before .before .aim-of .ensures) (c .before .before .before .before .before .before .before .before .before .before .before .before .before .before .before .before .before .before .free-for .result) (c .before .before .before .before .before .before .before .before .before .before .before .before .before .before .before .before .before .others-for .result) (c .before .before .before .before .before .before .before .before .before .sight .result) (c .before .before .before .before .before .before .before .before .judge .result) (c .before .before .before .before .before .before .before .before .before .before .before .before .before .before .before .before .before .before .free-for .ensures) (c .before .before .before .before .before .before .before .before .before .before .before .before .before .before .before .before .before .others-for .ensures) (c .before .before .before .before .before .before .before .before .before .sight .ensures) (c .before .before .before .before .before .before .before .before .judge .ensures) _ ((c .before .before .before .before .before .before .o .given .1) ∙ ap (Yes (c .before .before .before .before .before .before .o .given .0 .0)) (c .before .before .before .x3 .given .1))
+element-set-from-run c = placed-at (c .before .before .before .before .before .before .before .before) _ ((c .before .before .before .before .before .before .o .given .1) ∙ ap (Yes (c .before .before .before .before .before .before .o .given .0 .0)) (c .before .before .before .x3 .given .1))
 
 enum-known-x-4 : tie.Need-enum-known-x-4
 enum-known-x-4 c = search needs
@@ -131,7 +157,7 @@ mul-next-2 : tie.Need-mul-next-2
 mul-next-2 c = search needs
 
 element-set-from-next-2 : tie.Need-element-set-from-next-2
-element-set-from-next-2 c = (placed (c .before .before .before .before .before .before .before .before .before .before .before .before .before .before .before .before .before .before .before .before .before .before .before .args .t1) (c .before .before .before .before .before .before .before .before .before .before .before .before .before .before .before .before .before .before .before .before .before .before .before .args .s) (sym (c .before .before .before .before .before .before .before .before .before .before .before .before .before .before .before .before .before .before .before .before .before .before .undamaged .ensures) ∙ (c .before .before .before .before .before .before .before .before .before .before .before .before .before .before .before .before .before .before .before .before .before .if1 .taken)) (c .before .before .before .before .before .before .before .before .before .before .before .before .before .before .before .before .before .admit .result) (c .before .before .before .before .before .before .before .before .before .before .before .before .before .before .before .before .before .admit .ensures) (c .before .before .before .before .before .before .before .before .before .before .before .before .before .before .slot-of .result) (c .before .before .before .before .before .before .before .before .before .before .before .before .before .before .slot-of .ensures) (c .before .before .before .before .before .before .before .before .before .before .before .before .aim-of .result) (c .before .before .before .before .before .before .before .before .before .before .before .before .aim-of .ensures) (c .before .before .before .before .before .before .before .before .before .before .before .before .before .before .before .before .free-for .result) (c .before .before .before .before .before .before .before .before .before .before .before .before .before .before .before .others-for .result) (c .before .before .before .before .before .before .before .sight .result) (c .before .before .before .before .before .before .judge .result) (c .before .before .before .before .before .before .before .before .before .before .before .before .before .before .before .before .free-for .ensures) (c .before .before .before .before .before .before .before .before .before .before .before .before .before .before .before .others-for .ensures) (c .before .before .before .before .before .before .before .sight .ensures) (c .before .before .before .before .before .before .judge .ensures) _ ((c .before .before .before .before .o .given .1) ∙ ap (Yes (c .before .before .before .before .o .given .0 .0)) (c .before .x4 .given .1))) .0
+element-set-from-next-2 c = (placed-at (c .before .before .before .before .before .before) _ ((c .before .before .before .before .o .given .1) ∙ ap (Yes (c .before .before .before .before .o .given .0 .0)) (c .before .x4 .given .1))) .0
 
 cast-t70 : tie.Need-cast-t70
 cast-t70 c = search needs
@@ -140,7 +166,7 @@ mul-t71 : tie.Need-mul-t71
 mul-t71 c = search needs
 
 element-set-from-run-2 : tie.Need-element-set-from-run-2
-element-set-from-run-2 c = (placed (c .before .before .before .before .before .before .before .before .before .before .before .before .before .before .before .before .before .before .before .before .before .before .before .args .t1) (c .before .before .before .before .before .before .before .before .before .before .before .before .before .before .before .before .before .before .before .before .before .before .before .args .s) (sym (c .before .before .before .before .before .before .before .before .before .before .before .before .before .before .before .before .before .before .before .before .before .before .undamaged .ensures) ∙ (c .before .before .before .before .before .before .before .before .before .before .before .before .before .before .before .before .before .before .before .before .before .if1 .taken)) (c .before .before .before .before .before .before .before .before .before .before .before .before .before .before .before .before .before .admit .result) (c .before .before .before .before .before .before .before .before .before .before .before .before .before .before .before .before .before .admit .ensures) (c .before .before .before .before .before .before .before .before .before .before .before .before .before .before .slot-of .result) (c .before .before .before .before .before .before .before .before .before .before .before .before .before .before .slot-of .ensures) (c .before .before .before .before .before .before .before .before .before .before .before .before .aim-of .result) (c .before .before .before .before .before .before .before .before .before .before .before .before .aim-of .ensures) (c .before .before .before .before .before .before .before .before .before .before .before .before .before .before .before .before .free-for .result) (c .before .before .before .before .before .before .before .before .before .before .before .before .before .before .before .others-for .result) (c .before .before .before .before .before .before .before .sight .result) (c .before .before .before .before .before .before .judge .result) (c .before .before .before .before .before .before .before .before .before .before .before .before .before .before .before .before .free-for .ensures) (c .before .before .before .before .before .before .before .before .before .before .before .before .before .before .before .others-for .ensures) (c .before .before .before .before .before .before .before .sight .ensures) (c .before .before .before .before .before .before .judge .ensures) _ ((c .before .before .before .before .o .given .1) ∙ ap (Yes (c .before .before .before .before .o .given .0 .0)) (c .before .x4 .given .1))) .1
+element-set-from-run-2 c = (placed-at (c .before .before .before .before .before .before) _ ((c .before .before .before .before .o .given .1) ∙ ap (Yes (c .before .before .before .before .o .given .0 .0)) (c .before .x4 .given .1))) .1
 
 enum-known-x-5 : tie.Need-enum-known-x-5
 enum-known-x-5 c = search needs
@@ -152,7 +178,7 @@ mul-before-2 : tie.Need-mul-before-2
 mul-before-2 c = search needs
 
 element-copy-out-before-2 : tie.Need-element-copy-out-before-2
-element-copy-out-before-2 c = (placed (c .before .before .before .before .before .before .before .before .before .before .before .before .before .before .before .before .before .before .before .before .before .before .before .args .t1) (c .before .before .before .before .before .before .before .before .before .before .before .before .before .before .before .before .before .before .before .before .before .before .before .args .s) (sym (c .before .before .before .before .before .before .before .before .before .before .before .before .before .before .before .before .before .before .before .before .before .before .undamaged .ensures) ∙ (c .before .before .before .before .before .before .before .before .before .before .before .before .before .before .before .before .before .before .before .before .before .if1 .taken)) (c .before .before .before .before .before .before .before .before .before .before .before .before .before .before .before .before .before .admit .result) (c .before .before .before .before .before .before .before .before .before .before .before .before .before .before .before .before .before .admit .ensures) (c .before .before .before .before .before .before .before .before .before .before .before .before .before .before .slot-of .result) (c .before .before .before .before .before .before .before .before .before .before .before .before .before .before .slot-of .ensures) (c .before .before .before .before .before .before .before .before .before .before .before .before .aim-of .result) (c .before .before .before .before .before .before .before .before .before .before .before .before .aim-of .ensures) (c .before .before .before .before .before .before .before .before .before .before .before .before .before .before .before .before .free-for .result) (c .before .before .before .before .before .before .before .before .before .before .before .before .before .before .before .others-for .result) (c .before .before .before .before .before .before .before .sight .result) (c .before .before .before .before .before .before .judge .result) (c .before .before .before .before .before .before .before .before .before .before .before .before .before .before .before .before .free-for .ensures) (c .before .before .before .before .before .before .before .before .before .before .before .before .before .before .before .others-for .ensures) (c .before .before .before .before .before .before .before .sight .ensures) (c .before .before .before .before .before .before .judge .ensures) _ ((c .before .before .before .before .o .given .1) ∙ ap (Yes (c .before .before .before .before .o .given .0 .0)) (c .before .x5 .given .1))) .0
+element-copy-out-before-2 c = (placed-at (c .before .before .before .before .before .before) _ ((c .before .before .before .before .o .given .1) ∙ ap (Yes (c .before .before .before .before .o .given .0 .0)) (c .before .x5 .given .1))) .0
 
 done-requires-2 : tie.Need-done-requires-2
 done-requires-2 c κs = search needs
@@ -164,7 +190,7 @@ mul-t79 : tie.Need-mul-t79
 mul-t79 c = search needs
 
 element-set-from-run-3 : tie.Need-element-set-from-run-3
-element-set-from-run-3 c = (placed (c .before .before .before .before .before .before .before .before .before .before .before .before .before .before .before .before .before .before .before .before .before .before .before .before .before .args .t1) (c .before .before .before .before .before .before .before .before .before .before .before .before .before .before .before .before .before .before .before .before .before .before .before .before .before .args .s) (sym (c .before .before .before .before .before .before .before .before .before .before .before .before .before .before .before .before .before .before .before .before .before .before .before .before .undamaged .ensures) ∙ (c .before .before .before .before .before .before .before .before .before .before .before .before .before .before .before .before .before .before .before .before .before .before .before .if1 .taken)) (c .before .before .before .before .before .before .before .before .before .before .before .before .before .before .before .before .before .before .before .admit .result) (c .before .before .before .before .before .before .before .before .before .before .before .before .before .before .before .before .before .before .before .admit .ensures) (c .before .before .before .before .before .before .before .before .before .before .before .before .before .before .before .before .slot-of .result) (c .before .before .before .before .before .before .before .before .before .before .before .before .before .before .before .before .slot-of .ensures) (c .before .before .before .before .before .before .before .before .before .before .before .before .before .before .aim-of .result) (c .before .before .before .before .before .before .before .before .before .before .before .before .before .before .aim-of .ensures) (c .before .before .before .before .before .before .before .before .before .before .before .before .before .before .before .before .before .before .free-for .result) (c .before .before .before .before .before .before .before .before .before .before .before .before .before .before .before .before .before .others-for .result) (c .before .before .before .before .before .before .before .before .before .sight .result) (c .before .before .before .before .before .before .before .before .judge .result) (c .before .before .before .before .before .before .before .before .before .before .before .before .before .before .before .before .before .before .free-for .ensures) (c .before .before .before .before .before .before .before .before .before .before .before .before .before .before .before .before .before .others-for .ensures) (c .before .before .before .before .before .before .before .before .before .sight .ensures) (c .before .before .before .before .before .before .before .before .judge .ensures) _ ((c .before .before .before .before .before .before .o .given .1) ∙ ap (Yes (c .before .before .before .before .before .before .o .given .0 .0)) (c .before .before .before .x5 .given .1))) .0
+element-set-from-run-3 c = (placed-at (c .before .before .before .before .before .before .before .before) _ ((c .before .before .before .before .before .before .o .given .1) ∙ ap (Yes (c .before .before .before .before .before .before .o .given .0 .0)) (c .before .before .before .x5 .given .1))) .0
 
 cast-held-2 : tie.Need-cast-held-2
 cast-held-2 c = search needs
@@ -173,25 +199,25 @@ mul-held-2 : tie.Need-mul-held-2
 mul-held-2 c = search needs
 
 element-set-from-held-2 : tie.Need-element-set-from-held-2
-element-set-from-held-2 c = (placed (c .before .before .before .before .before .before .before .before .before .before .before .before .before .before .before .before .before .before .before .before .before .before .before .before .before .args .t1) (c .before .before .before .before .before .before .before .before .before .before .before .before .before .before .before .before .before .before .before .before .before .before .before .before .before .args .s) (sym (c .before .before .before .before .before .before .before .before .before .before .before .before .before .before .before .before .before .before .before .before .before .before .before .before .undamaged .ensures) ∙ (c .before .before .before .before .before .before .before .before .before .before .before .before .before .before .before .before .before .before .before .before .before .before .before .if1 .taken)) (c .before .before .before .before .before .before .before .before .before .before .before .before .before .before .before .before .before .before .before .admit .result) (c .before .before .before .before .before .before .before .before .before .before .before .before .before .before .before .before .before .before .before .admit .ensures) (c .before .before .before .before .before .before .before .before .before .before .before .before .before .before .before .before .slot-of .result) (c .before .before .before .before .before .before .before .before .before .before .before .before .before .before .before .before .slot-of .ensures) (c .before .before .before .before .before .before .before .before .before .before .before .before .before .before .aim-of .result) (c .before .before .before .before .before .before .before .before .before .before .before .before .before .before .aim-of .ensures) (c .before .before .before .before .before .before .before .before .before .before .before .before .before .before .before .before .before .before .free-for .result) (c .before .before .before .before .before .before .before .before .before .before .before .before .before .before .before .before .before .others-for .result) (c .before .before .before .before .before .before .before .before .before .sight .result) (c .before .before .before .before .before .before .before .before .judge .result) (c .before .before .before .before .before .before .before .before .before .before .before .before .before .before .before .before .before .before .free-for .ensures) (c .before .before .before .before .before .before .before .before .before .before .before .before .before .before .before .before .before .others-for .ensures) (c .before .before .before .before .before .before .before .before .before .sight .ensures) (c .before .before .before .before .before .before .before .before .judge .ensures) _ ((c .before .before .before .before .before .before .o .given .1) ∙ ap (Yes (c .before .before .before .before .before .before .o .given .0 .0)) (c .before .before .before .x5 .given .1))) .1
+element-set-from-held-2 c = (placed-at (c .before .before .before .before .before .before .before .before) _ ((c .before .before .before .before .before .before .o .given .1) ∙ ap (Yes (c .before .before .before .before .before .before .o .given .0 .0)) (c .before .before .before .x5 .given .1))) .1
 
 returns-2 : tie.Need-returns-2
 unfolding changed
-returns-2 c = took (c .before .before .before .before .before .before .before .before .before .before .before .before .before .before .before .before .before .before .before .before .before .before .before .args .t1) (c .before .before .before .before .before .before .before .before .before .before .before .before .before .before .before .before .before .before .before .before .before .before .before .args .s) (sym (c .before .before .before .before .before .before .before .before .before .before .before .before .before .before .before .before .before .before .before .before .before .before .undamaged .ensures) ∙ (c .before .before .before .before .before .before .before .before .before .before .before .before .before .before .before .before .before .before .before .before .before .if1 .taken)) (c .before .before .before .before .before .before .before .before .before .before .before .before .before .before .before .before .before .admit .result) (c .before .before .before .before .before .before .before .before .before .before .before .before .before .before .before .before .before .admit .ensures) (c .before .before .before .before .before .before .before .before .before .before .before .before .before .before .slot-of .result) (c .before .before .before .before .before .before .before .before .before .before .before .before .before .before .slot-of .ensures) (c .before .before .before .before .before .before .before .before .before .before .before .before .aim-of .result) (c .before .before .before .before .before .before .before .before .before .before .before .before .aim-of .ensures) (c .before .before .before .before .before .before .before .before .before .before .before .before .before .before .before .before .free-for .result) (c .before .before .before .before .before .before .before .before .before .before .before .before .before .before .before .others-for .result) (c .before .before .before .before .before .before .before .sight .result) (c .before .before .before .before .before .before .judge .result) (c .before .before .before .before .before .before .before .before .before .before .before .before .before .before .before .before .free-for .ensures) (c .before .before .before .before .before .before .before .before .before .before .before .before .before .before .before .others-for .ensures) (c .before .before .before .before .before .before .before .sight .ensures) (c .before .before .before .before .before .before .judge .ensures) _ ((c .before .before .before .before .o .given .1) ∙ ap (Yes (c .before .before .before .before .o .given .0 .0)) (c .before .x .given .1))
+returns-2 c = took-at (c .before .before .before .before .before .before) _ ((c .before .before .before .before .o .given .1) ∙ ap (Yes (c .before .before .before .before .o .given .0 .0)) (c .before .x .given .1))
 
 returns-3 : tie.Need-returns-3
 unfolding changed
-returns-3 c = took (c .before .before .before .before .before .before .before .before .before .before .before .before .before .before .before .before .before .before .before .before .before .before .before .args .t1) (c .before .before .before .before .before .before .before .before .before .before .before .before .before .before .before .before .before .before .before .before .before .before .before .args .s) (sym (c .before .before .before .before .before .before .before .before .before .before .before .before .before .before .before .before .before .before .before .before .before .before .undamaged .ensures) ∙ (c .before .before .before .before .before .before .before .before .before .before .before .before .before .before .before .before .before .before .before .before .before .if1 .taken)) (c .before .before .before .before .before .before .before .before .before .before .before .before .before .before .before .before .before .admit .result) (c .before .before .before .before .before .before .before .before .before .before .before .before .before .before .before .before .before .admit .ensures) (c .before .before .before .before .before .before .before .before .before .before .before .before .before .before .slot-of .result) (c .before .before .before .before .before .before .before .before .before .before .before .before .before .before .slot-of .ensures) (c .before .before .before .before .before .before .before .before .before .before .before .before .aim-of .result) (c .before .before .before .before .before .before .before .before .before .before .before .before .aim-of .ensures) (c .before .before .before .before .before .before .before .before .before .before .before .before .before .before .before .before .free-for .result) (c .before .before .before .before .before .before .before .before .before .before .before .before .before .before .before .others-for .result) (c .before .before .before .before .before .before .before .sight .result) (c .before .before .before .before .before .before .judge .result) (c .before .before .before .before .before .before .before .before .before .before .before .before .before .before .before .before .free-for .ensures) (c .before .before .before .before .before .before .before .before .before .before .before .before .before .before .before .others-for .ensures) (c .before .before .before .before .before .before .before .sight .ensures) (c .before .before .before .before .before .before .judge .ensures) _ ((c .before .before .before .before .o .given .1) ∙ ap (Yes (c .before .before .before .before .o .given .0 .0)) (c .before .x2 .given .1))
+returns-3 c = took-at (c .before .before .before .before .before .before) _ ((c .before .before .before .before .o .given .1) ∙ ap (Yes (c .before .before .before .before .o .given .0 .0)) (c .before .x2 .given .1))
 
 returns-4 : tie.Need-returns-4
-returns-4 c = cabinet-put (c .before .before .before .before .before .before .before .before .before .before .before .before .before .before .before .before .before .before .before .before .before .before .before .before .before .args .t1) _ _ _ _ (c .done .ensures) ∙ took (c .before .before .before .before .before .before .before .before .before .before .before .before .before .before .before .before .before .before .before .before .before .before .before .before .before .args .t1) (c .before .before .before .before .before .before .before .before .before .before .before .before .before .before .before .before .before .before .before .before .before .before .before .before .before .args .s) (sym (c .before .before .before .before .before .before .before .before .before .before .before .before .before .before .before .before .before .before .before .before .before .before .before .before .undamaged .ensures) ∙ (c .before .before .before .before .before .before .before .before .before .before .before .before .before .before .before .before .before .before .before .before .before .before .before .if1 .taken)) (c .before .before .before .before .before .before .before .before .before .before .before .before .before .before .before .before .before .before .before .admit .result) (c .before .before .before .before .before .before .before .before .before .before .before .before .before .before .before .before .before .before .before .admit .ensures) (c .before .before .before .before .before .before .before .before .before .before .before .before .before .before .before .before .slot-of .result) (c .before .before .before .before .before .before .before .before .before .before .before .before .before .before .before .before .slot-of .ensures) (c .before .before .before .before .before .before .before .before .before .before .before .before .before .before .aim-of .result) (c .before .before .before .before .before .before .before .before .before .before .before .before .before .before .aim-of .ensures) (c .before .before .before .before .before .before .before .before .before .before .before .before .before .before .before .before .before .before .free-for .result) (c .before .before .before .before .before .before .before .before .before .before .before .before .before .before .before .before .before .others-for .result) (c .before .before .before .before .before .before .before .before .before .sight .result) (c .before .before .before .before .before .before .before .before .judge .result) (c .before .before .before .before .before .before .before .before .before .before .before .before .before .before .before .before .before .before .free-for .ensures) (c .before .before .before .before .before .before .before .before .before .before .before .before .before .before .before .before .before .others-for .ensures) (c .before .before .before .before .before .before .before .before .before .sight .ensures) (c .before .before .before .before .before .before .before .before .judge .ensures) _ ((c .before .before .before .before .before .before .o .given .1) ∙ ap (Yes (c .before .before .before .before .before .before .o .given .0 .0)) (c .before .before .before .x3 .given .1))
+returns-4 c = cabinet-put (before (c .before .before .before .before .before .before .before .before)) _ _ _ _ (c .done .ensures) ∙ took-at (c .before .before .before .before .before .before .before .before) _ ((c .before .before .before .before .before .before .o .given .1) ∙ ap (Yes (c .before .before .before .before .before .before .o .given .0 .0)) (c .before .before .before .x3 .given .1))
 
 returns-5 : tie.Need-returns-5
 unfolding changed
-returns-5 c = took (c .before .before .before .before .before .before .before .before .before .before .before .before .before .before .before .before .before .before .before .before .before .before .before .args .t1) (c .before .before .before .before .before .before .before .before .before .before .before .before .before .before .before .before .before .before .before .before .before .before .before .args .s) (sym (c .before .before .before .before .before .before .before .before .before .before .before .before .before .before .before .before .before .before .before .before .before .before .undamaged .ensures) ∙ (c .before .before .before .before .before .before .before .before .before .before .before .before .before .before .before .before .before .before .before .before .before .if1 .taken)) (c .before .before .before .before .before .before .before .before .before .before .before .before .before .before .before .before .before .admit .result) (c .before .before .before .before .before .before .before .before .before .before .before .before .before .before .before .before .before .admit .ensures) (c .before .before .before .before .before .before .before .before .before .before .before .before .before .before .slot-of .result) (c .before .before .before .before .before .before .before .before .before .before .before .before .before .before .slot-of .ensures) (c .before .before .before .before .before .before .before .before .before .before .before .before .aim-of .result) (c .before .before .before .before .before .before .before .before .before .before .before .before .aim-of .ensures) (c .before .before .before .before .before .before .before .before .before .before .before .before .before .before .before .before .free-for .result) (c .before .before .before .before .before .before .before .before .before .before .before .before .before .before .before .others-for .result) (c .before .before .before .before .before .before .before .sight .result) (c .before .before .before .before .before .before .judge .result) (c .before .before .before .before .before .before .before .before .before .before .before .before .before .before .before .before .free-for .ensures) (c .before .before .before .before .before .before .before .before .before .before .before .before .before .before .before .others-for .ensures) (c .before .before .before .before .before .before .before .sight .ensures) (c .before .before .before .before .before .before .judge .ensures) _ ((c .before .before .before .before .o .given .1) ∙ ap (Yes (c .before .before .before .before .o .given .0 .0)) (c .before .x4 .given .1))
+returns-5 c = took-at (c .before .before .before .before .before .before) _ ((c .before .before .before .before .o .given .1) ∙ ap (Yes (c .before .before .before .before .o .given .0 .0)) (c .before .x4 .given .1))
 
 returns-6 : tie.Need-returns-6
-returns-6 c = offering-put (c .before .before .before .before .before .before .before .before .before .before .before .before .before .before .before .before .before .before .before .before .before .before .before .before .before .args .t1) _ _ _ _ _ _ (c .done2 .ensures) ∙ took (c .before .before .before .before .before .before .before .before .before .before .before .before .before .before .before .before .before .before .before .before .before .before .before .before .before .args .t1) (c .before .before .before .before .before .before .before .before .before .before .before .before .before .before .before .before .before .before .before .before .before .before .before .before .before .args .s) (sym (c .before .before .before .before .before .before .before .before .before .before .before .before .before .before .before .before .before .before .before .before .before .before .before .before .undamaged .ensures) ∙ (c .before .before .before .before .before .before .before .before .before .before .before .before .before .before .before .before .before .before .before .before .before .before .before .if1 .taken)) (c .before .before .before .before .before .before .before .before .before .before .before .before .before .before .before .before .before .before .before .admit .result) (c .before .before .before .before .before .before .before .before .before .before .before .before .before .before .before .before .before .before .before .admit .ensures) (c .before .before .before .before .before .before .before .before .before .before .before .before .before .before .before .before .slot-of .result) (c .before .before .before .before .before .before .before .before .before .before .before .before .before .before .before .before .slot-of .ensures) (c .before .before .before .before .before .before .before .before .before .before .before .before .before .before .aim-of .result) (c .before .before .before .before .before .before .before .before .before .before .before .before .before .before .aim-of .ensures) (c .before .before .before .before .before .before .before .before .before .before .before .before .before .before .before .before .before .before .free-for .result) (c .before .before .before .before .before .before .before .before .before .before .before .before .before .before .before .before .before .others-for .result) (c .before .before .before .before .before .before .before .before .before .sight .result) (c .before .before .before .before .before .before .before .before .judge .result) (c .before .before .before .before .before .before .before .before .before .before .before .before .before .before .before .before .before .before .free-for .ensures) (c .before .before .before .before .before .before .before .before .before .before .before .before .before .before .before .before .before .others-for .ensures) (c .before .before .before .before .before .before .before .before .before .sight .ensures) (c .before .before .before .before .before .before .before .before .judge .ensures) _ ((c .before .before .before .before .before .before .o .given .1) ∙ ap (Yes (c .before .before .before .before .before .before .o .given .0 .0)) (c .before .before .before .x5 .given .1))
+returns-6 c = offering-put (before (c .before .before .before .before .before .before .before .before)) _ _ _ _ _ _ (c .done2 .ensures) ∙ took-at (c .before .before .before .before .before .before .before .before) _ ((c .before .before .before .before .before .before .o .given .1) ∙ ap (Yes (c .before .before .before .before .before .before .o .given .0 .0)) (c .before .before .before .x5 .given .1))
 
 returns-7 : tie.Need-returns-7
 returns-7 c = sym (step-damaged (c .before .before .args .t1) (c .before .before .args .s) (sym (c .before .undamaged .ensures) ∙ (c .if1 .left)))

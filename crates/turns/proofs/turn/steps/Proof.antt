@@ -61,7 +61,11 @@ find-requires c κs = (c .loop .inv .within)
 
 add-n : tie.Need-add-n Inv-loop2 μ-loop2 Inv-loop μ-loop
 add-n c =
-    omega (arith, taking-row (c .before .before .before .before .before .before .before .args .s .now) (c .before .before .before .before .loop .i) ((c .before .before .before .find .result) .end) ((c .before .before .before .find .result) .step) (c .before .if1 .left) ((c .before .before .before .find .ensures .0 .1)) ((c .before .before .before .find .ensures .1 .1) (c .before .if1 .left)) (c .before .before .before .before .before .before .before .args .at) (c .before .before .before .before .before .before .before .args .row) (c .before .before .before .before .before .before .before .args .t5) (c .before .before .before .before .before .before .before .args .out .now) (c .before .before .before .before .loop .out) (c .before .before .before .before .loop .o) (c .before .before .before .before .loop .n) (c .before .before .before .before .loop .run) (c .before .before .before .before .loop .inv))
+    let a = c .before .before .before .before .before .before .before .args in
+    let l = c .before .before .before .before .loop in
+    let f = c .before .before .before .find in
+    let later = c .before .if1 .left in
+    omega (arith, taking-row (a .s .now) (l .i) (f .result .end) (f .result .step) later (f .ensures .0 .1) (f .ensures .1 .1 later) (a .at) (a .row) (a .t5) (a .out .now) (l .out) (l .o) (l .n) (l .run) (l .inv))
 
 -- ---- the place behind admission, which every way through the loop passes: the call, the turn, the row found
 
@@ -318,8 +322,8 @@ loop-again-6 c =
     next h _ _ _
     (admitted h _ (c .before .before .before .before .before .before .before .before .before .before .c3 .given .1) _
     (decide-sends (held h) _ _
-    ∙ (c .before .before .before .before .before .before .before .asks .ensures) (firstFrom 0 ((held h) .slots))
-    ∙ ap (askingAs (firstFrom 0 ((held h) .slots))) (c .before .before .before .before .before .why4 .given .1)))
+    ∙ (c .before .before .before .before .before .before .before .asks .ensures) (firstFrom 0 (held h .slots))
+    ∙ ap (askingAs (firstFrom 0 (held h .slots))) (c .before .before .before .before .before .why4 .given .1)))
     (c .before .before .refuse4 .ensures .0)
     (c .before .before .refuse4 .ensures .1)
 
@@ -350,7 +354,7 @@ loop2-less c = omega (arith, (c .before .before .before .loop2-test .taken))
 loop2-again : tie.Need-loop2-again Inv-loop2 μ-loop2 Inv-loop μ-loop
 loop2-again c =
     let h = c .before .before .before .before .before .before .before .before .before .before .before .before .before in
-    (omega (arith, (c .before .before .before .loop2-test .taken)), (c .before .before .before .before .loop2 .inv .1) ∙ first-next ((held h) .slots) (c .before .before .before .before .loop2 .j) (c .before .before .before .before .loop2 .j) (sym (c .before .is-empty .ensures) ∙ (c .if2 .left)))
+    (omega (arith, (c .before .before .before .loop2-test .taken)), (c .before .before .before .before .loop2 .inv .1) ∙ first-next (held h .slots) (c .before .before .before .before .loop2 .j) (c .before .before .before .before .loop2 .j) (sym (c .before .is-empty .ensures) ∙ (c .if2 .left)))
 
 cast-request : tie.Need-cast-request Inv-loop2 μ-loop2 Inv-loop μ-loop
 cast-request c = search needs
@@ -379,13 +383,13 @@ loop-again-7 : tie.Need-loop-again-7 Inv-loop2 μ-loop2 Inv-loop μ-loop
 unfolding changed
 loop-again-7 c =
     let h = c .before .before .before .before .before .before .before .before .before .before .before .before .before .before .before in
-    let here : firstFrom (c .before .before .before .before .before .before .loop2 .j) (drop (c .before .before .before .before .before .before .loop2 .j) ((held h) .slots)) ≡ (c .before .before .before .before .before .before .loop2 .j) = ⊎-elim (λ w. absurd (omega (arith, w .left, (c .before .before .before .before .if3 .taken)))) (λ w. first-here ((held h) .slots) (c .before .before .before .before .before .before .loop2 .j) (c .before .before .before .before .before .before .loop2 .j) (sym (w .2 .ensures) ∙ w .3 .taken)) (c .before .before .before .before .before .loop2-test .came) in
+    let here : firstFrom (c .before .before .before .before .before .before .loop2 .j) (drop (c .before .before .before .before .before .before .loop2 .j) (held h .slots)) ≡ (c .before .before .before .before .before .before .loop2 .j) = ⊎-elim (λ w. absurd (omega (arith, w .left, (c .before .before .before .before .if3 .taken)))) (λ w. first-here (held h .slots) (c .before .before .before .before .before .before .loop2 .j) (c .before .before .before .before .before .before .loop2 .j) (sym (w .2 .ensures) ∙ w .3 .taken)) (c .before .before .before .before .before .loop2-test .came) in
     next h _ _ _
     (admitted h _ (c .before .before .before .before .before .before .before .before .before .before .before .before .before .c3 .given .1) _
     (decide-sends (held h) _ _
-    ∙ (c .before .before .before .before .before .before .before .before .before .before .asks .ensures) (firstFrom 0 ((held h) .slots))
-    ∙ ap (askingAs (firstFrom 0 ((held h) .slots))) (c .before .before .before .before .before .before .before .before .request .given .1)
-    ∙ sent-in (firstFrom 0 ((held h) .slots)) (c .before .before .before .before .before .before .loop2 .j) _ ((c .before .before .before .before .before .before .loop2 .inv .1) ∙ here) (c .before .before .before .before .if3 .taken)))
+    ∙ (c .before .before .before .before .before .before .before .before .before .before .asks .ensures) (firstFrom 0 (held h .slots))
+    ∙ ap (askingAs (firstFrom 0 (held h .slots))) (c .before .before .before .before .before .before .before .before .request .given .1)
+    ∙ sent-in (firstFrom 0 (held h .slots)) (c .before .before .before .before .before .before .loop2 .j) _ ((c .before .before .before .before .before .before .loop2 .inv .1) ∙ here) (c .before .before .before .before .if3 .taken)))
     (c .before .before .put-sent .ensures .0)
     (c .before .before .put-sent .ensures .1)
 
@@ -399,13 +403,13 @@ loop-again-8 : tie.Need-loop-again-8 Inv-loop2 μ-loop2 Inv-loop μ-loop
 unfolding changed
 loop-again-8 c =
     let h = c .before .before .before .before .before .before .before .before .before .before .before .before .before .before .before in
-    let none : 64 ≤ (firstFrom 0 ((held h) .slots)) = let q = first-least (drop (c .before .before .before .before .before .before .loop2 .j) ((held h) .slots)) (c .before .before .before .before .before .before .loop2 .j) in omega (arith, q, (c .before .before .before .before .before .before .loop2 .inv .1), (c .before .before .before .before .if3 .left)) in
+    let none : 64 ≤ (firstFrom 0 (held h .slots)) = let q = first-least (drop (c .before .before .before .before .before .before .loop2 .j) (held h .slots)) (c .before .before .before .before .before .before .loop2 .j) in omega (arith, q, (c .before .before .before .before .before .before .loop2 .inv .1), (c .before .before .before .before .if3 .left)) in
     next h _ _ _
     (admitted h _ (c .before .before .before .before .before .before .before .before .before .before .before .before .before .c3 .given .1) _
     (decide-sends (held h) _ _
-    ∙ (c .before .before .before .before .before .before .before .before .before .before .asks .ensures) (firstFrom 0 ((held h) .slots))
-    ∙ ap (askingAs (firstFrom 0 ((held h) .slots))) (c .before .before .before .before .before .before .before .before .request .given .1)
-    ∙ sent-nowhere (firstFrom 0 ((held h) .slots)) _ none))
+    ∙ (c .before .before .before .before .before .before .before .before .before .before .asks .ensures) (firstFrom 0 (held h .slots))
+    ∙ ap (askingAs (firstFrom 0 (held h .slots))) (c .before .before .before .before .before .before .before .before .request .given .1)
+    ∙ sent-nowhere (firstFrom 0 (held h .slots)) _ none))
     (c .before .before .refuse5 .ensures .0)
     (c .before .before .refuse5 .ensures .1)
 
@@ -814,7 +818,7 @@ loop-again-17 c =
     next h _ _ _
     (admitted h _ (c .before .before .before .before .before .before .before .before .j2 .given .1) _
     (decide-loses (held h) _
-    ∙ lost-none (getD ((held h) .slots) (c .before .before .before .before .before .before .before .before .j2 .given .0 .0) emptySlot .held) (c .before .before .before .before .before .before .before .before .j2 .given .0 .0) (sym (c .before .before .before .before .before .is-empty2 .ensures) ∙ (c .before .before .before .before .if5 .taken))))
+    ∙ lost-none (getD (held h .slots) (c .before .before .before .before .before .before .before .before .j2 .given .0 .0) emptySlot .held) (c .before .before .before .before .before .before .before .before .j2 .given .0 .0) (sym (c .before .before .before .before .before .is-empty2 .ensures) ∙ (c .before .before .before .before .if5 .taken))))
     (c .before .before .refuse7 .ensures .0)
     (c .before .before .refuse7 .ensures .1)
 
@@ -850,7 +854,7 @@ loop-again-18 c =
     next h _ _ _
     (admitted h _ (c .before .before .before .before .before .before .before .before .j2 .given .1) _
     (decide-loses (held h) _
-    ∙ lost-one (getD ((held h) .slots) (c .before .before .before .before .before .before .before .before .j2 .given .0 .0) emptySlot .held) (c .before .before .before .before .before .before .before .before .j2 .given .0 .0) (sym (c .before .before .before .before .before .is-empty2 .ensures) ∙ (c .before .before .before .before .if5 .left))))
+    ∙ lost-one (getD (held h .slots) (c .before .before .before .before .before .before .before .before .j2 .given .0 .0) emptySlot .held) (c .before .before .before .before .before .before .before .before .j2 .given .0 .0) (sym (c .before .before .before .before .before .is-empty2 .ensures) ∙ (c .before .before .before .before .if5 .left))))
     (c .before .before .accept3 .ensures .0)
     (c .before .before .accept3 .ensures .1)
 
@@ -884,7 +888,7 @@ loop-again-19 c =
     next h _ _ _
     (admitted h _ (c .before .before .before .before .before .before .before .before .p .given .1) _
     (decide-stops (held h) _
-    ∙ sym (stops-down (getD ((held h) .cabinets) (c .before .before .before .before .before .before .before .before .p .given .0 .0) noCabinet .power) (c .before .before .before .before .before .before .before .before .p .given .0 .0) (sym (c .before .before .before .before .before .is-down .ensures) ∙ (c .before .before .before .before .if6 .taken)))))
+    ∙ sym (stops-down (getD (held h .cabinets) (c .before .before .before .before .before .before .before .before .p .given .0 .0) noCabinet .power) (c .before .before .before .before .before .before .before .before .p .given .0 .0) (sym (c .before .before .before .before .before .is-down .ensures) ∙ (c .before .before .before .before .if6 .taken)))))
     (c .before .before .refuse8 .ensures .0)
     (c .before .before .refuse8 .ensures .1)
 
@@ -918,7 +922,7 @@ loop-again-20 c =
     next h _ _ _
     (admitted h _ (c .before .before .before .before .before .before .before .before .before .p .given .1) _
     (decide-stops (held h) _
-    ∙ sym (stops-up (getD ((held h) .cabinets) (c .before .before .before .before .before .before .before .before .before .p .given .0 .0) noCabinet .power) (c .before .before .before .before .before .before .before .before .before .p .given .0 .0) (sym (c .before .before .before .before .before .before .is-down .ensures) ∙ (c .before .before .before .before .before .if6 .left))))
+    ∙ sym (stops-up (getD (held h .cabinets) (c .before .before .before .before .before .before .before .before .before .p .given .0 .0) noCabinet .power) (c .before .before .before .before .before .before .before .before .before .p .given .0 .0) (sym (c .before .before .before .before .before .before .is-down .ensures) ∙ (c .before .before .before .before .before .if6 .left))))
     ∙ sym (cabinet-put (held h) Stopped (c .before .before .before .before .before .before .before .before .before .p .given .0 .0) (c .before .before .before .before .stop .result) GoDown (c .before .before .before .before .stop .ensures)))
     (c .before .before .accept4 .ensures .0)
     (c .before .before .accept4 .ensures .1)
@@ -970,7 +974,7 @@ loop-again-21 c =
     next h _ _ _
     (admitted h _ (c .before .before .before .before .before .before .before .before .before .p2 .given .1) _
     (decide-restarts (held h) _)
-    ∙ sym (cabinet-put (held h) Restarted (c .before .before .before .before .before .before .before .before .before .p2 .given .0 .0) (c .before .before .before .before .restart .result) ComeUp ((c .before .before .before .before .restart .ensures) ∙ ap (λ (z : Bool). restarted (ltb (c .before .before .before .before .before .before .before .before .before .p2 .given .0 .0) ((held h) .plan .stores)) z (getD ((held h) .cabinets) (c .before .before .before .before .before .before .before .before .before .p2 .given .0 .0) noCabinet)) (c .before .before .before .before .before .forgets .ensures))))
+    ∙ sym (cabinet-put (held h) Restarted (c .before .before .before .before .before .before .before .before .before .p2 .given .0 .0) (c .before .before .before .before .restart .result) ComeUp ((c .before .before .before .before .restart .ensures) ∙ ap (λ (z : Bool). restarted (ltb (c .before .before .before .before .before .before .before .before .before .p2 .given .0 .0) (held h .plan .stores)) z (getD (held h .cabinets) (c .before .before .before .before .before .before .before .before .before .p2 .given .0 .0) noCabinet)) (c .before .before .before .before .before .forgets .ensures))))
     (c .before .before .accept5 .ensures .0)
     (c .before .before .accept5 .ensures .1)
 
@@ -1030,7 +1034,7 @@ loop-again-22 c =
     next h _ _ _
     (admitted h _ (c .before .before .before .before .before .before .before .before .before .before .before .before .before .before .before .p3 .given .1) _
     (decide-rolls (held h) _ _
-    ∙ sym (rolls-back ((held h) .plan) (c .before .before .before .before .before .before .before .before .before .before .before .before .before .before .before .p3 .given .0 .0) (c .before .before .before .before .before .before .before .before .before .before .before .before .before .before .before .p3 .given .0 .1 .0) (sightOf (getD ((held h) .cabinets) (c .before .before .before .before .before .before .before .before .before .before .before .before .before .before .before .p3 .given .0 .0) noCabinet)) (othersFrom (c .before .before .before .before .before .before .before .before .before .before .before .before .before .before .before .p3 .given .0 .0) 0 ((held h) .cabinets)) (sym (c .before .before .before .before .before .before .before .before .before .before .before .keeps-older .ensures) ∙ (c .before .before .before .before .before .before .before .before .before .before .if7 .taken)) (ap (λ (z : ℕ). getD ((held h) .cabinets) (c .before .before .before .before .before .before .before .before .before .before .before .before .before .before .before .p3 .given .0 .0) noCabinet .marked || ltb z ((held h) .plan .r)) (sym (c .before .before .before .before .before .before .before .before .others-marked .ensures)) ∙ sym (c .before .before .before .before .before .before .before .may-roll .ensures) ∙ (c .before .before .before .before .before .before .if8 .taken))))
+    ∙ sym (rolls-back (held h .plan) (c .before .before .before .before .before .before .before .before .before .before .before .before .before .before .before .p3 .given .0 .0) (c .before .before .before .before .before .before .before .before .before .before .before .before .before .before .before .p3 .given .0 .1 .0) (sightOf (getD (held h .cabinets) (c .before .before .before .before .before .before .before .before .before .before .before .before .before .before .before .p3 .given .0 .0) noCabinet)) (othersFrom (c .before .before .before .before .before .before .before .before .before .before .before .before .before .before .before .p3 .given .0 .0) 0 (held h .cabinets)) (sym (c .before .before .before .before .before .before .before .before .before .before .before .keeps-older .ensures) ∙ (c .before .before .before .before .before .before .before .before .before .before .if7 .taken)) (ap (λ (z : ℕ). getD (held h .cabinets) (c .before .before .before .before .before .before .before .before .before .before .before .before .before .before .before .p3 .given .0 .0) noCabinet .marked || ltb z (held h .plan .r)) (sym (c .before .before .before .before .before .before .before .before .others-marked .ensures)) ∙ sym (c .before .before .before .before .before .before .before .may-roll .ensures) ∙ (c .before .before .before .before .before .before .if8 .taken))))
     ∙ sym (cabinet-put (held h) RolledBack (c .before .before .before .before .before .before .before .before .before .before .before .before .before .before .before .p3 .given .0 .0) (c .before .before .before .before .rollback .result) (GoBack (c .before .before .before .before .before .before .before .before .before .before .before .before .before .before .before .p3 .given .0 .1 .0)) (c .before .before .before .before .rollback .ensures)))
     (c .before .before .accept6 .ensures .0)
     (c .before .before .accept6 .ensures .1)
@@ -1048,7 +1052,7 @@ loop-again-23 c =
     next h _ _ _
     (admitted h _ (c .before .before .before .before .before .before .before .before .before .before .before .before .before .p3 .given .1) _
     (decide-rolls (held h) _ _
-    ∙ sym (rolls-many ((held h) .plan) (c .before .before .before .before .before .before .before .before .before .before .before .before .before .p3 .given .0 .0) (c .before .before .before .before .before .before .before .before .before .before .before .before .before .p3 .given .0 .1 .0) (sightOf (getD ((held h) .cabinets) (c .before .before .before .before .before .before .before .before .before .before .before .before .before .p3 .given .0 .0) noCabinet)) (othersFrom (c .before .before .before .before .before .before .before .before .before .before .before .before .before .p3 .given .0 .0) 0 ((held h) .cabinets)) (sym (c .before .before .before .before .before .before .before .before .before .keeps-older .ensures) ∙ (c .before .before .before .before .before .before .before .before .if7 .taken)) (ap (λ (z : ℕ). getD ((held h) .cabinets) (c .before .before .before .before .before .before .before .before .before .before .before .before .before .p3 .given .0 .0) noCabinet .marked || ltb z ((held h) .plan .r)) (sym (c .before .before .before .before .before .before .others-marked .ensures)) ∙ sym (c .before .before .before .before .before .may-roll .ensures) ∙ (c .before .before .before .before .if8 .left)))))
+    ∙ sym (rolls-many (held h .plan) (c .before .before .before .before .before .before .before .before .before .before .before .before .before .p3 .given .0 .0) (c .before .before .before .before .before .before .before .before .before .before .before .before .before .p3 .given .0 .1 .0) (sightOf (getD (held h .cabinets) (c .before .before .before .before .before .before .before .before .before .before .before .before .before .p3 .given .0 .0) noCabinet)) (othersFrom (c .before .before .before .before .before .before .before .before .before .before .before .before .before .p3 .given .0 .0) 0 (held h .cabinets)) (sym (c .before .before .before .before .before .before .before .before .before .keeps-older .ensures) ∙ (c .before .before .before .before .before .before .before .before .if7 .taken)) (ap (λ (z : ℕ). getD (held h .cabinets) (c .before .before .before .before .before .before .before .before .before .before .before .before .before .p3 .given .0 .0) noCabinet .marked || ltb z (held h .plan .r)) (sym (c .before .before .before .before .before .before .others-marked .ensures)) ∙ sym (c .before .before .before .before .before .may-roll .ensures) ∙ (c .before .before .before .before .if8 .left)))))
     (c .before .before .refuse9 .ensures .0)
     (c .before .before .refuse9 .ensures .1)
 
@@ -1065,7 +1069,7 @@ loop-again-24 c =
     next h _ _ _
     (admitted h _ (c .before .before .before .before .before .before .before .before .before .p3 .given .1) _
     (decide-rolls (held h) _ _
-    ∙ sym (rolls-none ((held h) .plan) (c .before .before .before .before .before .before .before .before .before .p3 .given .0 .0) (c .before .before .before .before .before .before .before .before .before .p3 .given .0 .1 .0) (sightOf (getD ((held h) .cabinets) (c .before .before .before .before .before .before .before .before .before .p3 .given .0 .0) noCabinet)) (othersFrom (c .before .before .before .before .before .before .before .before .before .p3 .given .0 .0) 0 ((held h) .cabinets)) (sym (c .before .before .before .before .before .keeps-older .ensures) ∙ (c .before .before .before .before .if7 .left)))))
+    ∙ sym (rolls-none (held h .plan) (c .before .before .before .before .before .before .before .before .before .p3 .given .0 .0) (c .before .before .before .before .before .before .before .before .before .p3 .given .0 .1 .0) (sightOf (getD (held h .cabinets) (c .before .before .before .before .before .before .before .before .before .p3 .given .0 .0) noCabinet)) (othersFrom (c .before .before .before .before .before .before .before .before .before .p3 .given .0 .0) 0 (held h .cabinets)) (sym (c .before .before .before .before .before .keeps-older .ensures) ∙ (c .before .before .before .before .if7 .left)))))
     (c .before .before .refuse10 .ensures .0)
     (c .before .before .refuse10 .ensures .1)
 
