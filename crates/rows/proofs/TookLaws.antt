@@ -91,8 +91,8 @@ module _ (l : List ℕ) (at row : ℕ) (run : Run) (d e : List ℕ) (w : Went) (
 -- ---- the row that is held
 
 -- CR and LF behind a row
-pub closed : (line : List ℕ) (len : ℕ) → length line ≡ 67 → len ≤ 65 → take (len + 2) (set (set line len 13) (len + 1) 10) ≡ take len line ++ (13 ∷ 10 ∷ [])
-closed line len size few =
+pub crlf-put : (line : List ℕ) (len : ℕ) → length line ≡ 67 → len ≤ 65 → take (len + 2) (set (set line len 13) (len + 1) 10) ≡ take len line ++ (13 ∷ 10 ∷ [])
+crlf-put line len size few =
     let n : len + 2 ≡ suc (len + 1) = omega (arith, add-one (len + 1)) in
     let h : len < length line = omega arith in
     let j : len + 1 < length (set line len 13) = omega (arith, length-set line len 13) in

@@ -20,7 +20,7 @@ unfoldable pub breaks : List ℕ → ℕ
 breaks [] = 0
 breaks (b ∷ l) = cond (eqb b 10) 1 0 + breaks l
 
--- "A row of another form, a later plan row included, or over 64 bytes, is answered 2": as a step of no known kind is
+-- where steps are due, a row that is no step stands for a step of no known kind: that is answered 2 and changes nothing, too
 abbrev pub stepIn : Row → Step
 stepIn Other = NoKind
 stepIn (Plan n k r b) = NoKind

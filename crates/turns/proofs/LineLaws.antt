@@ -22,10 +22,10 @@ unfolding closed
 closed-more [] l = refl
 closed-more (k ∷ ls) l = rw (closed-more ls l, append-assoc)
 
-pub breaks-more : (ls : List (List ℕ)) (l : List ℕ) → breaksIn ls ≡ 0 → breaks l ≡ 0 → breaksIn (ls ++ (l ∷ [])) ≡ 0
+pub unbroken-more : (ls : List (List ℕ)) (l : List ℕ) → breaksIn ls ≡ 0 → breaks l ≡ 0 → breaksIn (ls ++ (l ∷ [])) ≡ 0
 unfolding breaksIn
-breaks-more [] l e f = omega (arith, f)
-breaks-more (k ∷ ls) l e f = let h : breaksIn (ls ++ (l ∷ [])) ≡ 0 = breaks-more ls l (omega arith) f in omega arith
+unbroken-more [] l e f = omega (arith, f)
+unbroken-more (k ∷ ls) l e f = let h : breaksIn (ls ++ (l ∷ [])) ≡ 0 = unbroken-more ls l (omega arith) f in omega arith
 
 pub steps-more : (ls : List (List ℕ)) (l : List ℕ) → stepsIn (ls ++ (l ∷ [])) ≡ stepsIn ls ++ (stepIn (rowOf (unended l)) ∷ [])
 unfolding stepsIn

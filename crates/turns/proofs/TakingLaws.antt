@@ -19,7 +19,7 @@ use Rattle.print.specs.Put.{put, Wrote}
 use Rattle.print.specs.Rows.{stepText}
 use Rattle.print.proofs.PutLaws.{put-none, length-put, after}
 use Rattle.turns.specs.Turns.{closed, breaksIn, stepsIn, textAll, Took}
-use Rattle.turns.proofs.LineLaws.{closed-more, breaks-more, steps-more, steps-length, run-more, text-more}
+use Rattle.turns.proofs.LineLaws.{closed-more, unbroken-more, steps-more, steps-length, run-more, text-more}
 
 -- what a part, the buffer d at `at`, the row number and the run have become after i bytes
 pub record Taking (s : List ℕ) (at row : ℕ) (run : Run) (d : List ℕ) (i : ℕ) (e : List ℕ) (o n : ℕ) (held : Run) : Type 0 where
@@ -102,7 +102,7 @@ module _ (s : List ℕ) (i j : ℕ) (x : Step) (later : i < j) (within : j ≤ l
           lines = t .lines ++ (one .line ∷ []);
           within = within;
           taken = bytes-on;
-          unbroken = breaks-more (t .lines) (one .line) (t .unbroken) (one .unbroken);
+          unbroken = unbroken-more (t .lines) (one .line) (t .unbroken) (one .unbroken);
           same = ap length (z .0) ∙ y;
           goes = goes-on;
           next = omega (arith, t .next, length-append (t .lines) (one .line ∷ []));

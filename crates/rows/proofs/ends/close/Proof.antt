@@ -1,5 +1,5 @@
 -- `rows::ends::close` meets its contract. Assumes nothing.
-use Rattle.rows.proofs.TookLaws.{closed}
+use Rattle.rows.proofs.TookLaws.{crlf-put}
 use native.Mathlib.Omega.{arith}
 use borrow.Author.Needs.{needs}
 use Rattle.rows.proofs.ends.close.Statement.{statement}
@@ -21,7 +21,7 @@ add-result : tie.Need-add-result
 add-result c = search needs
 
 returns : tie.Need-returns
-returns c = (closed (c .before .before .args .line .now) (c .before .before .args .len) (c .full .ensures) (c .before .before .pre), omega arith, c .full .ensures)
+returns c = (crlf-put (c .before .before .args .line .now) (c .before .before .args .len) (c .full .ensures) (c .before .before .pre), omega arith, c .full .ensures)
 
 pub close-spec : {M : Type 1} → statement M
 close-spec =
