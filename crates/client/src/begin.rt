@@ -1,19 +1,17 @@
 // A client begins an operation, sends a request, or leaves.
 use cabinet::Entry;
 use heard::Heard;
-use parts::Body;
-use parts::Change;
-use parts::Client;
-use parts::Decision;
-use parts::Held;
-use parts::Message;
-use parts::Outcome;
-use parts::Refusal;
-use parts::Slot;
-use parts::Work;
+use types::Body;
+use types::Client;
+use types::Held;
+use types::Message;
+use types::Refusal;
+use types::Slot;
+use types::Work;
 ghost use mathlib.Core.Path.{_≡_};
 ghost use Prim.Native.Nat.{ℕ, _≤_};
-ghost use Rattle.parts.specs.declared.answer.Outcome.the-variants.{Begun, Left};
+ghost use Rattle.limits.specs.Limits.{mostSteps};
+ghost use Rattle.types.specs.declared.answer.Outcome.{Outcome};
 ghost use Rattle.client.specs.Begin.{standingOf, partOf, beginsOf, requestBody, requestSlot, sendsOf, gone as Begin·gone, leavesOf};
 ghost use Rattle.client.specs.Small.{movedAs, askingAs};
 
@@ -23,9 +21,6 @@ pub enum Standing {
     Away,
     Busy,
 }
-
-// So many slots a run has; the number stands for none of them.
-pub const SLOTS: u8 = 64;
 
 fn stands(w: Work) -> Standing
     ensures { λ r. ⌜ r ≡ standingOf w ⌝ }
@@ -66,8 +61,8 @@ pub enum Asking {
 }
 
 pub fn opens(c: Client, w: Work) -> Moved
-    requires { ⌜ c .operation ≤ 1000000 ⌝ }
-    ensures { λ r. ⌜ ((i : ℕ) → beginsOf i c w ≡ movedAs Begun i r) ⌝ }
+    requires { ⌜ c .operation ≤ mostSteps ⌝ }
+    ensures { λ r. ⌜ ((i : ℕ) → beginsOf i c w ≡ movedAs Outcome.Begun i r) ⌝ }
 {
     let now = c.work;
     match stands(now) {
@@ -79,16 +74,6 @@ pub fn opens(c: Client, w: Work) -> Moved
         }),
         Standing::Away => Moved::Not(Refusal::HasLeft),
         Standing::Busy => Moved::Not(Refusal::NotIdle),
-    }
-}
-
-pub fn begins(i: u8, c: Client, w: Work) -> Decision
-    requires { ⌜ c .operation ≤ 1000000 ⌝ }
-    ensures { λ r. ⌜ r ≡ beginsOf i c w ⌝ }
-{
-    match opens(c, w) {
-        Moved::Not(why) => Decision::No(why),
-        Moved::To(next) => Decision::Yes(Outcome::Begun, Change::OfClient(i, next)),
     }
 }
 
@@ -132,21 +117,6 @@ pub fn asks(i: u8, k: u8, c: Client) -> Asking
     }
 }
 
-pub fn sends(i: u8, k: u8, c: Client, free: u8) -> Decision
-    ensures { λ r. ⌜ r ≡ sendsOf i k c free ⌝ }
-{
-    match asks(i, k, c) {
-        Asking::Not(why) => Decision::No(why),
-        Asking::Puts(t) => {
-            if SLOTS <= free {
-                Decision::No(Refusal::Full)
-            } else {
-                Decision::Yes(Outcome::Sent(free + 1), Change::OfSlot(free, t))
-            }
-        }
-    }
-}
-
 fn gone(c: Client) -> Client
     ensures { λ r. ⌜ r ≡ Begin·gone c ⌝ }
 {
@@ -159,21 +129,12 @@ fn gone(c: Client) -> Client
 }
 
 pub fn quits(c: Client) -> Moved
-    ensures { λ r. ⌜ ((i : ℕ) → leavesOf i c ≡ movedAs Left i r) ⌝ }
+    ensures { λ r. ⌜ ((i : ℕ) → leavesOf i c ≡ movedAs Outcome.Left i r) ⌝ }
 {
     let now = c.work;
     match stands(now) {
         Standing::Free => Moved::To(gone(c)),
         Standing::Away => Moved::Not(Refusal::HasLeft),
         Standing::Busy => Moved::To(gone(c)),
-    }
-}
-
-pub fn leaves(i: u8, c: Client) -> Decision
-    ensures { λ r. ⌜ r ≡ leavesOf i c ⌝ }
-{
-    match quits(c) {
-        Moved::Not(why) => Decision::No(why),
-        Moved::To(next) => Decision::Yes(Outcome::Left, Change::OfClient(i, next)),
     }
 }

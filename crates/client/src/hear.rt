@@ -4,14 +4,15 @@ use cabinet::Entry;
 use cabinet::Reading;
 use cabinet::Stamp;
 use heard::Heard;
-use parts::Body;
-use parts::Client;
-use parts::Ending;
-use parts::Message;
-use parts::Work;
 use plan::Plan;
+use types::Body;
+use types::Client;
+use types::Ending;
+use types::Message;
+use types::Work;
 ghost use mathlib.Core.Path.{_≡_};
 ghost use Prim.Native.Nat.{ℕ, _≤_, _<_};
+ghost use Rattle.limits.specs.Limits.{mostClients, mostSteps};
 ghost use Rattle.heard.specs.Heard.{countOf};
 ghost use Rattle.client.specs.Hear.{toldStamp, toldEntry, toldTaken, toldBy, toldOf, bestOf, counted, ended, firstWrite, firstRead, second, hearsOf, toldCounter};
 ghost use Rattle.client.specs.Small.{hearsAs};
@@ -148,7 +149,7 @@ fn end(operation: u32, how: Ending, shown: Entry, next: Work, best: Entry) -> He
 }
 
 fn first_write(plan: Plan, i: u8, c: Client, heard: Heard, n: u8, r: Reading, best: Entry) -> Hears
-    requires { ⌜ (i < 8) × (best .stamp .counter ≤ 1000000) × (n ≡ countOf heard) ⌝ }
+    requires { ⌜ (i < mostClients) × (best .stamp .counter ≤ mostSteps) × (n ≡ countOf heard) ⌝ }
     ensures { λ d. ⌜ ((j : ℕ) → firstWrite plan i j c heard r best ≡ hearsAs i j d) ⌝ }
 {
     if plan.read <= n {
@@ -187,7 +188,7 @@ fn second_part(plan: Plan, c: Client, heard: Heard, n: u8, how: Ending) -> Hears
 
 // Client m.client, which is c, hears the message m.
 pub fn hear(plan: Plan, c: Client, m: Message) -> Hears
-    requires { ⌜ (m .client < 8) × (c .best .stamp .counter ≤ 1000000) × (toldCounter (m .body) ≤ 1000000) ⌝ }
+    requires { ⌜ (m .client < mostClients) × (c .best .stamp .counter ≤ mostSteps) × (toldCounter (m .body) ≤ mostSteps) ⌝ }
     ensures { λ d. ⌜ ((j : ℕ) → hearsOf plan j c m ≡ hearsAs (m .client) j d) ⌝ }
 {
     let before = c.heard;

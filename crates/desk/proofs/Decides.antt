@@ -13,11 +13,7 @@ use prog.Wp.{Heap}
 use ghost.Atoms.{Atoms}
 use contract.Monad.{Fun, fact}
 use denote.Ref.{now}
-use Rattle.cabinet.specs.declared.record.Cabinet.{Cabinet}
-use Rattle.parts.specs.declared.step.Step.{Step}
-use Rattle.run.specs.declared.Run.{Run}
-use Rattle.desk.specs.declared.Local.{Local}
-use Rattle.desk.specs.declared.Served.{Served}
+use Rattle.desk.specs.Names.{Cabinet, Local, Run, Served, Step}
 use Rattle.desk.specs.Desk.{lentOf, tableOf, localOf}
 use Rattle.desk.proofs.array.step_local as step-local
 use Rattle.desk.proofs.entrance.step_lent as step-lent

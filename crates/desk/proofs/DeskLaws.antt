@@ -10,24 +10,17 @@ use lib.Dec.{eqb, ltb}
 use lib.ListN.{length, getD, take, replicate, length-append, List·getD-append, List·getD-eq-default}
 use lib.Seq.{getD-take, length-take-le, take-append-seam}
 use borrow.Author.Tests.{eqb-true, ne-eqb, ltb-true, ltb-false, lt-ltb, le-ltb}
-use Rattle.cabinet.specs.declared.record.Cabinet.{Cabinet}
+use Rattle.limits.specs.Limits.{mostCabinets}
+use Rattle.desk.specs.Names.{Answer, Cabinet, Lent, Plan, Refusal, Run, Served, Step}
 use Rattle.cabinet.specs.Cabinets.{freshCabinet}
 use Rattle.cabinet.specs.Entries.{isFactory}
-use Rattle.parts.specs.declared.answer.Answer.the-variants.{Refused}
-use Rattle.parts.specs.declared.answer.Refusal.{Refusal}
-use Rattle.parts.specs.declared.answer.Refusal.the-variants.{Damaged}
-use Rattle.parts.specs.declared.step.Step.{Step}
-use Rattle.parts.specs.Parts.{noCabinet, storedIn}
-use Rattle.plan.specs.declared.Plan.{Plan}
+use Rattle.types.specs.Parts.{noCabinet, storedIn}
 use Rattle.guard.specs.All.{allFrom}
 use Rattle.guard.specs.Damage.{recordSound, isFresh, cabinetSound}
-use Rattle.run.specs.declared.Run.{Run}
 use Rattle.run.specs.Steps.{slotAt, stepOf}
 use Rattle.run.specs.Undamaged.{restSound, undamaged}
 use Rattle.run.proofs.FrameLaws.{step-cabinet, step-damaged, step-refused, step-lengths}
 use Rattle.run.proofs.MeetLaws.{askedOf, metAt}
-use Rattle.desk.specs.declared.Lent.the-variants.{WrongLength, Answered}
-use Rattle.desk.specs.declared.Served.{Served}
 use Rattle.desk.specs.Desk.{withCabinets, withRecords, viewed, answered, wrongLength, lentOf, tableOf}
 use Rattle.desk.proofs.ViewLaws.{lent-wrong, table-wrong, lent-right, table-right}
 
@@ -36,7 +29,7 @@ use Rattle.desk.proofs.ViewLaws.{lent-wrong, table-wrong, lent-right, t
 module _ (run : Run) (table : List Cabinet) (s : Step) where
   module _ (same : length table ≡ run .plan .n) where
     -- as a step of the run with the lent records put in: the answer, the next run and the table
-    pub as-step : (lentOf run table s .answer ≡ Answered (stepOf (withRecords run table) s .answer))
+    pub as-step : (lentOf run table s .answer ≡ Lent.Answered (stepOf (withRecords run table) s .answer))
         × (lentOf run table s .run ≡ withCabinets (stepOf (withRecords run table) s .run) (run .cabinets))
         × (tableOf run table s ≡ take (length table) (stepOf (withRecords run table) s .run .cabinets))
     unfolding viewed answered
@@ -45,12 +38,13 @@ module _ (run : Run) (table : List Cabinet) (s : Step) where
         (ap (λ (z : Served). z .answer) e, ap (λ (z : Served). z .run) e, sym (table-right run table s same))
 
     -- a run whose own records are the lent ones answers the same through either entrance
-    pub as-first : run .cabinets ≡ table ++ replicate (9 - length table) freshCabinet
-        → (lentOf run table s .answer ≡ Answered (stepOf run s .answer)) × (tableOf run table s ≡ take (length table) (stepOf run s .run .cabinets))
+    pub as-first : run .cabinets ≡ table ++ replicate (mostCabinets - length table) freshCabinet
+        → (lentOf run table s .answer ≡ Lent.Answered (stepOf run s .answer)) ×
+        (tableOf run table s ≡ take (length table) (stepOf run s .run .cabinets))
     unfolding withRecords withCabinets
     as-first e =
         let same-run : withRecords run table ≡ run = rw (sym e) in
-        (as-step .0 ∙ ap (λ (r : Run). Answered (stepOf r s .answer)) same-run, as-step .2 ∙ ap (λ (r : Run). take (length table) (stepOf r s .run .cabinets)) same-run)
+        (as-step .0 ∙ ap (λ (r : Run). Lent.Answered (stepOf r s .answer)) same-run, as-step .2 ∙ ap (λ (r : Run). take (length table) (stepOf r s .run .cabinets)) same-run)
 
   -- answer 14, and only there
   pub wrong-length : length table ≢ run .plan .n → (lentOf run table s ≡ wrongLength run) × (tableOf run table s ≡ table)
@@ -67,7 +61,8 @@ module _ (run : Run) (table : List Cabinet) (s : Step) where
   by-length P right wrong = go _ refl
     where
       go : (t : Bool) → eqb (length table) (run .plan .n) ≡ t
-          → P (cond t (answered run (viewed run table s)) (wrongLength run)) (cond t (take (length table) (viewed run table s .run .cabinets)) table)
+          → P (cond t (answered run (viewed run table s)) (wrongLength run))
+          (cond t (take (length table) (viewed run table s .run .cabinets)) table)
       go true e = right (eqb-true _ _ e)
       go false e = wrong
 
@@ -77,7 +72,7 @@ module _ (run : Run) (table : List Cabinet) (s : Step) where
   unfolding viewed withRecords withCabinets
   long =
       let a = step-lengths (withRecords run table) s .cabinets in
-      let b = length-append table (replicate (9 - length table) freshCabinet) in
+      let b = length-append table (replicate (mostCabinets - length table) freshCabinet) in
       omega arith
 
   pub table-length : length (tableOf run table s) ≡ length table
@@ -96,7 +91,7 @@ module _ (run : Run) (table : List Cabinet) (s : Step) where
           (λ same.
           getD-take (length table) (viewed run table s .run .cabinets) i noCabinet h
           ∙ step-cabinet (withRecords run table) s i noCabinet ne
-          ∙ List·getD-append table (replicate (9 - length table) freshCabinet) noCabinet i h)
+          ∙ List·getD-append table (replicate (mostCabinets - length table) freshCabinet) noCabinet i h)
           refl
       go false e =
           let h = ltb-false i (length table) e in
@@ -104,21 +99,22 @@ module _ (run : Run) (table : List Cabinet) (s : Step) where
 
   -- ---- "Every refusal changes nothing"
 
-  pub refused-length : lentOf run table s .answer ≡ WrongLength → (lentOf run table s .run ≡ run) × (tableOf run table s ≡ table)
+  pub refused-length : lentOf run table s .answer ≡ Lent.WrongLength → (lentOf run table s .run ≡ run) × (tableOf run table s ≡ table)
   unfolding answered
   refused-length =
-      by-length (λ (z : Served) (l : List Cabinet). z .answer ≡ WrongLength → (z .run ≡ run) × (l ≡ table))
+      by-length (λ (z : Served) (l : List Cabinet). z .answer ≡ Lent.WrongLength → (z .run ≡ run) × (l ≡ table))
       (λ same e. absurd (let z : _≡_ {A = ℕ} 0 1 = cc in omega arith))
       (λ e. (refl, refl))
 
-  pub refused : (w : Refusal) → lentOf run table s .answer ≡ Answered (Refused w) → (lentOf run table s .run ≡ run) × (tableOf run table s ≡ table)
+  pub refused : (w : Refusal) → lentOf run table s .answer ≡ Lent.Answered (Answer.Refused w)
+      → (lentOf run table s .run ≡ run) × (tableOf run table s ≡ table)
   unfolding answered viewed withRecords withCabinets
   refused w =
-      by-length (λ (z : Served) (l : List Cabinet). z .answer ≡ Answered (Refused w) → (z .run ≡ run) × (l ≡ table))
+      by-length (λ (z : Served) (l : List Cabinet). z .answer ≡ Lent.Answered (Answer.Refused w) → (z .run ≡ run) × (l ≡ table))
       (λ same e.
-      let f : viewed run table s .answer ≡ Refused w = cc in
+      let f : viewed run table s .answer ≡ Answer.Refused w = cc in
       let kept : viewed run table s .run ≡ withRecords run table = step-refused (withRecords run table) s w f in
-      (ap (λ (r : Run). withCabinets r (run .cabinets)) kept, ap (λ (r : Run). take (length table) (r .cabinets)) kept ∙ take-append-seam table (replicate (9 - length table) freshCabinet)))
+      (ap (λ (r : Run). withCabinets r (run .cabinets)) kept, ap (λ (r : Run). take (length table) (r .cabinets)) kept ∙ take-append-seam table (replicate (mostCabinets - length table) freshCabinet)))
       (λ e. (refl, refl))
 
   -- ---- "the run's own are neither read nor changed"
@@ -166,10 +162,11 @@ module _ (plan : Plan) (steps : ℕ) where
 module _ (run : Run) (table : List Cabinet) (s : Step) (same : length table ≡ run .plan .n) where
   pub lent-undamaged : undamaged (withRecords run table) ≡ (restSound run && allFrom (lentSound (run .plan) (run .steps)) 0 table)
   unfolding undamaged restSound withRecords withCabinets
-  lent-undamaged = ap (λ (t : Bool). restSound run && t) (lent-all (run .plan) (run .steps) 0 (9 - length table) table (omega arith))
+  lent-undamaged =
+      ap (λ (t : Bool). restSound run && t) (lent-all (run .plan) (run .steps) 0 (mostCabinets - length table) table (omega arith))
 
   -- answer 1, with the lent records in place of the run's own
   pub lent-damaged : (restSound run && allFrom (lentSound (run .plan) (run .steps)) 0 table) ≡ false
-      → lentOf run table s ≡ record { answer = Answered (Refused Damaged); run = run }
+      → lentOf run table s ≡ record { answer = Lent.Answered (Answer.Refused Refusal.Damaged); run = run }
   unfolding answered viewed withRecords withCabinets
   lent-damaged e = sym (lent-right run table s same) ∙ ap (answered run) (step-damaged (withRecords run table) s (lent-undamaged ∙ e))

@@ -4,22 +4,16 @@ use mathlib.Core.Bool.{cond}
 use mathlib.Core.List.{List, _++_}
 use lib.Dec.{eqb}
 use lib.ListN.{length, take, drop, replicate}
-use Rattle.cabinet.specs.declared.record.Cabinet.{Cabinet}
+use Rattle.limits.specs.Limits.{mostCabinets}
+use Rattle.desk.specs.Names.{Cabinet, Lent, Local, Run, Served, Step, Stepped}
 use Rattle.cabinet.specs.Cabinets.{freshCabinet}
-use Rattle.parts.specs.declared.step.Step.{Step}
-use Rattle.parts.specs.Answers.{answerNumber}
-use Rattle.run.specs.declared.Run.{Run}
-use Rattle.run.specs.declared.Stepped.{Stepped}
+use Rattle.types.specs.Answers.{answerNumber}
 use Rattle.run.specs.Steps.{stepOf}
-use Rattle.desk.specs.declared.Lent.{Lent}
-use Rattle.desk.specs.declared.Lent.the-variants.{WrongLength, Answered}
-use Rattle.desk.specs.declared.Local.{Local}
-use Rattle.desk.specs.declared.Served.{Served}
 
 -- the number that comes back: 14, "a lent cabinet table hasn't n records", or that of the step
 abbrev pub lentNumber : Lent → ℕ
-lentNumber WrongLength = 14
-lentNumber (Answered a) = answerNumber a
+lentNumber Lent.WrongLength = 14
+lentNumber (Lent.Answered a) = answerNumber a
 
 -- the run with other cabinets
 unfoldable pub withCabinets : Run → List Cabinet → Run
@@ -27,7 +21,7 @@ withCabinets run l = record { plan = run .plan; steps = run .steps; cabinets = l
 
 -- "The lent records then stand for the run's own"; the places past them are those of a fresh cabinet, so that the run's own are not read
 unfoldable pub withRecords : Run → List Cabinet → Run
-withRecords run table = withCabinets run (table ++ replicate (9 - length table) freshCabinet)
+withRecords run table = withCabinets run (table ++ replicate (mostCabinets - length table) freshCabinet)
 
 -- the step of the run that has these records
 unfoldable pub viewed : Run → List Cabinet → Step → Stepped
@@ -35,11 +29,11 @@ viewed run table s = stepOf (withRecords run table) s
 
 -- "the run's own are neither read nor changed"
 unfoldable pub answered : Run → Stepped → Served
-answered run z = record { answer = Answered (z .answer); run = withCabinets (z .run) (run .cabinets) }
+answered run z = record { answer = Lent.Answered (z .answer); run = withCabinets (z .run) (run .cabinets) }
 
 -- "Every refusal changes nothing"
 abbrev pub wrongLength : Run → Served
-wrongLength run = record { answer = WrongLength; run = run }
+wrongLength run = record { answer = Lent.WrongLength; run = run }
 
 -- answer 14 comes before all others: the table has not n records, "n as the run says"
 unfoldable pub lentOf : Run → List Cabinet → Step → Served

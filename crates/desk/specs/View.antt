@@ -3,37 +3,43 @@ use Prim.Native.Nat.{ℕ}
 use mathlib.Core.Bool.{cond}
 use lib.Dec.{ltb}
 use lib.ListN.{getD, set, replicate}
-use Rattle.cabinet.specs.declared.record.Cabinet.{Cabinet}
+use Rattle.limits.specs.Limits.{mostCabinets}
+use Rattle.desk.specs.Names.{Asked, Cabinet, Held, Made, Nine, Run, Served, Step, Stepped}
 use Rattle.cabinet.specs.Cabinets.{freshCabinet}
-use Rattle.parts.specs.declared.step.Asked.{Asked}
-use Rattle.parts.specs.declared.step.Step.{Step}
-use Rattle.parts.specs.Parts.{noCabinet}
-use Rattle.decide.specs.Admit.{admitOf}
-use Rattle.decide.specs.Decide.{slotOf}
-use Rattle.run.specs.declared.Run.{Run}
-use Rattle.run.specs.declared.Stepped.{Stepped}
-use Rattle.run.specs.Gather.{aimOf}
+use Rattle.types.specs.Parts.{noCabinet}
+use Rattle.admit.specs.Admit.{admitOf}
 use Rattle.run.specs.Steps.{slotAt, stepOf}
-use Rattle.desk.specs.declared.Made.{Made}
-use Rattle.desk.specs.declared.Nine.{Nine}
-use Rattle.desk.specs.declared.Served.{Served}
 use Rattle.desk.specs.Desk.{withCabinets, answered}
 
 abbrev pub noneLent : Nine
-noneLent = record { records = replicate 9 freshCabinet }
+noneLent = record { records = replicate mostCabinets freshCabinet }
 
 unfoldable pub lentAt : Nine → ℕ → Cabinet → Nine
-lentAt r i k = record { records = cond (ltb i 9) (set (r .records) i k) (r .records) }
+lentAt r i k = record { records = cond (ltb i mostCabinets) (set (r .records) i k) (r .records) }
 
--- the place that a step aims at, and the first where there is none
+-- the place of the cabinet that a request in a slot is for, and the first where there is none
+abbrev pub askedIn : Held → ℕ
+askedIn Held.Empty = 0
+askedIn (Held.Request m) = m .cabinet
+askedIn (Held.Reply m) = 0
+
+-- the place of the cabinet that a step may change, and the first where there is none
 unfoldable pub aimedBy : Run → Asked → ℕ
-aimedBy run a = aimOf a (slotAt run (slotOf a) .held) .cabinet
+aimedBy run (Asked.Barred why) = 0
+aimedBy run (Asked.Begins i w) = 0
+aimedBy run (Asked.Leaves i) = 0
+aimedBy run (Asked.Sends i p) = 0
+aimedBy run (Asked.Delivers j) = askedIn (slotAt run j .held)
+aimedBy run (Asked.Loses j) = 0
+aimedBy run (Asked.Stops p) = p
+aimedBy run (Asked.Restarts p) = p
+aimedBy run (Asked.RollsBack p j) = p
 
 unfoldable pub aimedAt : Run → Step → ℕ
 aimedAt run s = aimedBy run (admitOf (run .plan .n) (run .steps) s)
 
 unfoldable pub placeOf : Run → Step → ℕ
-placeOf run s = cond (ltb (aimedAt run s) 9) (aimedAt run s) 0
+placeOf run s = cond (ltb (aimedAt run s) mostCabinets) (aimedAt run s) 0
 
 unfoldable pub madeBy : Run → ℕ → Stepped → Made
 madeBy run p z = record { met = record { at = p; cabinet = getD (z .run .cabinets) p noCabinet }; answer = answered run z .answer; run = answered run z .run }

@@ -3,12 +3,13 @@ use super::Local;
 use super::entrance;
 use super::view;
 use cabinet::Cabinet;
-use parts::Step;
+use limits::MOST_CABINETS;
 use run::Run;
+use types::Step;
 ghost use mathlib.Core.Path.{_≡_};
 ghost use Rattle.desk.specs.Desk.{localOf};
 
-pub fn step_local(run: Run, table: [Cabinet; 9], len: usize, s: Step) -> Local
+pub fn step_local(run: Run, table: [Cabinet; MOST_CABINETS], len: usize, s: Step) -> Local
     ensures { λ r. ⌜ r ≡ localOf run table len s ⌝ }
 {
     let mut t = table;

@@ -2,8 +2,8 @@
 use super::Served;
 use super::view;
 use cabinet::Cabinet;
-use parts::Step;
 use run::Run;
+use types::Step;
 ghost use mathlib.Core.Path.{_≡_};
 ghost use Rattle.desk.specs.Desk.{lentOf, tableOf};
 

@@ -6,8 +6,9 @@ mod view;
 pub use array::step_local;
 use cabinet::Cabinet;
 pub use entrance::step_lent;
-use parts::Answer;
+use limits::MOST_CABINETS;
 use run::Run;
+use types::Answer;
 
 // Beside the answers of a step on a run of its own: the table has not n records, which is answer 14.
 pub enum Lent {
@@ -23,12 +24,12 @@ pub struct Served {
 // A table that was lent out of an array comes back with the rest of the array.
 pub struct Local {
     pub served: Served,
-    pub table: [Cabinet; 9],
+    pub table: [Cabinet; MOST_CABINETS],
 }
 
 // The lent records, with fresh cabinets at the places past them. It is a struct because the walk of the entrance carries it by its name.
 pub struct Nine {
-    pub records: [Cabinet; 9],
+    pub records: [Cabinet; MOST_CABINETS],
 }
 
 // The one record that a step meets, and its place. It stands apart, since the walk of the entrance reads it: the type of a run is too large for that.

@@ -5,23 +5,28 @@ use super::Made;
 use super::Met;
 use super::Nine;
 use super::Served;
+use admit::admit;
 use cabinet::Cabinet;
-use decide::admit;
-use decide::slot_of;
-use parts::Step;
+use limits::MOST_CABINETS;
 use run::Run;
-use run::aim_of;
 use run::take;
+use types::Asked;
+use types::Held;
+use types::Slot;
+use types::Step;
 ghost use mathlib.Core.Path.{_≡_};
 ghost use Prim.Native.Nat.{min, _<_};
+ghost use Rattle.limits.specs.Limits.{mostCabinets};
 ghost use Rattle.desk.specs.Desk.{wrongLength};
-ghost use Rattle.desk.specs.View.{noneLent, lentAt, placeOf, madeOf, servedOf};
+ghost use Rattle.desk.specs.View.{noneLent, lentAt, askedIn, aimedAt, placeOf, madeOf, servedOf};
 
 pub fn none_lent() -> Nine
     ensures { λ r. ⌜ r ≡ noneLent ⌝ }
 {
     let k = Cabinet::fresh();
-    Nine { records: [k; 9] }
+    Nine {
+        records: [k; MOST_CABINETS],
+    }
 }
 
 // A table of more than nine records belongs to a damaged run, and what stands past the ninth is not looked at.
@@ -29,23 +34,49 @@ pub fn with_record(r: Nine, i: usize, k: Cabinet) -> Nine
     ensures { λ z. ⌜ z ≡ lentAt r i k ⌝ }
 {
     let mut records = r.records;
-    if i < 9 {
+    if i < MOST_CABINETS {
         records[i] = k;
     }
     Nine { records: records }
 }
 
-// The place of the cabinet that the step meets. A damaged run may name one that is not there; its records stay as they are, the first too.
-fn place(run: Run, s: Step) -> usize
-    ensures { λ p. ⌜ (p ≡ placeOf run s) × (p < 9) ⌝ }
+fn asked_in(t: Slot) -> u8
+    ensures { λ r. ⌜ r ≡ askedIn (t .held) ⌝ }
+{
+    let h = t.held;
+    match h {
+        Held::Empty => 0,
+        Held::Request(m) => m.cabinet,
+        Held::Reply(_) => 0,
+    }
+}
+
+fn aimed(run: Run, s: Step) -> u8
+    ensures { λ r. ⌜ r ≡ aimedAt run s ⌝ }
 {
     let plan = run.plan;
-    let a = admit(plan.n, run.steps, s);
-    let j = slot_of(a) as usize;
-    let t = run.slots[j];
-    let at = aim_of(a, t);
-    let p = at.cabinet as usize;
-    if p < 9 {
+    match admit(plan.n, run.steps, s) {
+        Asked::Barred(_) => 0,
+        Asked::Begins(_, _) => 0,
+        Asked::Leaves(_) => 0,
+        Asked::Sends(_, _) => 0,
+        Asked::Delivers(j) => {
+            let t = run.slots[j as usize];
+            asked_in(t)
+        }
+        Asked::Loses(_) => 0,
+        Asked::Stops(p) => p,
+        Asked::Restarts(p) => p,
+        Asked::RollsBack(p, _) => p,
+    }
+}
+
+// The place of the cabinet that the step may change. A damaged run may name one that is not there; its records stay as they are, the first too.
+fn place(run: Run, s: Step) -> usize
+    ensures { λ p. ⌜ (p ≡ placeOf run s) × (p < mostCabinets) ⌝ }
+{
+    let p = aimed(run, s) as usize;
+    if p < MOST_CABINETS {
         return p;
     }
     0
@@ -108,15 +139,15 @@ pub fn serve(m: Made) -> Served
 
 // An array of nine lends at most nine.
 pub fn few(len: usize) -> usize
-    ensures { λ r. ⌜ r ≡ min len 9 ⌝ }
+    ensures { λ r. ⌜ r ≡ min len mostCabinets ⌝ }
 {
-    if len < 9 {
+    if len < MOST_CABINETS {
         return len;
     }
-    9
+    MOST_CABINETS
 }
 
-pub fn pack(served: Served, table: [Cabinet; 9]) -> Local
+pub fn pack(served: Served, table: [Cabinet; MOST_CABINETS]) -> Local
     ensures { λ r. ⌜ r ≡ record { served = served; table = table } ⌝ }
 {
     Local {

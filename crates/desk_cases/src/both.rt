@@ -2,19 +2,20 @@
 use super::sums;
 use cabinet::Cabinet;
 use desk::Lent;
-use parts::Step;
+use limits::MOST_CABINETS;
 use run::Run;
+use types::Step;
 
 // The first run steps on its own records, the second over the table. The sum is that of the second's own records, which no step may change.
 pub struct Both {
     pub first: Run,
     pub second: Run,
-    pub table: [Cabinet; 9],
+    pub table: [Cabinet; MOST_CABINETS],
     pub own: u64,
 }
 
 pub struct Compared {
-    pub number: u8,
+    pub number: u64,
     pub same: bool,
     pub both: Both,
 }
@@ -35,7 +36,7 @@ pub fn begin(run: Run) -> Both {
     }
 }
 
-pub fn lent_number(l: Lent) -> u8 {
+pub fn lent_number(l: Lent) -> u64 {
     match l {
         Lent::WrongLength => 14,
         Lent::Answered(a) => sums::answer_number(a),

@@ -2,12 +2,13 @@
 use super::both;
 use super::both::Both;
 use super::line::line_from;
-use parts::Step;
 use plan::Planned;
 use text::Row;
+use types::Step;
 ghost use mathlib.Core.Path.{_≡_};
 ghost use Prim.Native.Nat.{_+_, _≤_};
 ghost use lib.ListN.{length};
+ghost use Rattle.desk_cases.specs.Sizes.{mostListBytes};
 
 // The first row that differs is counted from the plan, as in a transcript; 0: none does.
 pub struct Tally {
@@ -30,7 +31,7 @@ fn nothing(begun: bool) -> Tally
 
 // The plan is row 1, so the first step is row 2.
 fn first_row(t: Tally, same: bool) -> u64
-    requires { ⌜ t .accepted + t .refused ≤ 65536 ⌝ }
+    requires { ⌜ t .accepted + t .refused ≤ mostListBytes ⌝ }
 {
     if same {
         return t.differs;
@@ -41,8 +42,8 @@ fn first_row(t: Tally, same: bool) -> u64
     t.accepted + t.refused + 2
 }
 
-fn counted(t: Tally, number: u8, same: bool) -> Tally
-    requires { ⌜ t .accepted + t .refused ≤ 65536 ⌝ }
+fn counted(t: Tally, number: u64, same: bool) -> Tally
+    requires { ⌜ t .accepted + t .refused ≤ mostListBytes ⌝ }
     ensures { λ r. ⌜ r .accepted + r .refused ≡ t .accepted + t .refused + 1 ⌝ }
 {
     let row = first_row(t, same);
@@ -72,8 +73,8 @@ fn step_of(r: Row) -> Step {
 }
 
 fn steps(s: &[u8], from: usize, begun: Both) -> Tally
-    requires { ⌜ (from ≤ length (now s)) × (length (now s) ≤ 65536) ⌝ }
-    ensures { λ r. ⌜ r .accepted + r .refused ≤ 65536 ⌝ }
+    requires { ⌜ (from ≤ length (now s)) × (length (now s) ≤ mostListBytes) ⌝ }
+    ensures { λ r. ⌜ r .accepted + r .refused ≤ mostListBytes ⌝ }
 {
     let mut b = begun;
     let mut t = nothing(true);
@@ -92,8 +93,8 @@ fn steps(s: &[u8], from: usize, begun: Both) -> Tally
 
 // The rows behind the plan, if it is accepted.
 fn planned(s: &[u8], from: usize, row: Row) -> Tally
-    requires { ⌜ (from ≤ length (now s)) × (length (now s) ≤ 65536) ⌝ }
-    ensures { λ r. ⌜ r .accepted + r .refused ≤ 65536 ⌝ }
+    requires { ⌜ (from ≤ length (now s)) × (length (now s) ≤ mostListBytes) ⌝ }
+    ensures { λ r. ⌜ r .accepted + r .refused ≤ mostListBytes ⌝ }
 {
     match row {
         Row::Other => nothing(false),
@@ -111,10 +112,10 @@ fn planned(s: &[u8], from: usize, row: Row) -> Tally
     }
 }
 
-// A list is held whole, in a buffer of 65,536 bytes, so that its steps can be counted.
+// A list is held whole, in a buffer of `mostListBytes`, so that its steps can be counted.
 pub fn compare(s: &[u8]) -> Tally
-    requires { ⌜ length (now s) ≤ 65536 ⌝ }
-    ensures { λ r. ⌜ r .accepted + r .refused ≤ 65536 ⌝ }
+    requires { ⌜ length (now s) ≤ mostListBytes ⌝ }
+    ensures { λ r. ⌜ r .accepted + r .refused ≤ mostListBytes ⌝ }
 {
     let head = line_from(s, 0);
     let to = head.to;

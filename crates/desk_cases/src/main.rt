@@ -7,7 +7,7 @@ mod show;
 mod sums;
 mod tables;
 
-// A list of more than 65,536 bytes would be cut, and its counts would show that.
+// A list that is longer than the buffer would be cut, and its counts would show that.
 fn one(i: usize) {
     let mut path = io::buffer();
     let n = os::arg(i, &mut path);

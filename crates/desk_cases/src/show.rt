@@ -2,6 +2,7 @@
 use super::list::Tally;
 use libc::STDOUT_FILENO;
 ghost use Prim.Native.Nat.{_+_, _≤_};
+ghost use Rattle.desk_cases.specs.Sizes.{mostListBytes};
 
 fn word(s: &[u8]) {
     io::write_all(STDOUT_FILENO, s);
@@ -12,7 +13,7 @@ fn number(n: u64) {
 }
 
 fn counts(t: Tally)
-    requires { ⌜ t .accepted + t .refused ≤ 65536 ⌝ }
+    requires { ⌜ t .accepted + t .refused ≤ mostListBytes ⌝ }
 {
     let a = t.accepted;
     let r = t.refused;
@@ -25,7 +26,7 @@ fn counts(t: Tally)
 }
 
 pub fn list(name: &[u8], t: Tally)
-    requires { ⌜ t .accepted + t .refused ≤ 65536 ⌝ }
+    requires { ⌜ t .accepted + t .refused ≤ mostListBytes ⌝ }
 {
     word(name);
     word(b": ");
@@ -43,8 +44,8 @@ pub fn list(name: &[u8], t: Tally)
     }
 }
 
-pub fn table(n: u8, name: &[u8], kept: bool) {
-    number(n as u64);
+pub fn table(n: u64, name: &[u8], kept: bool) {
+    number(n);
     word(b" ");
     word(name);
     if kept {

@@ -4,19 +4,23 @@ use cabinet::Entry;
 use cabinet::Power;
 use cabinet::Reading;
 use cabinet::Stamp;
-use parts::Answer;
-use parts::Body;
-use parts::Client;
-use parts::Ending;
-use parts::Held;
-use parts::Message;
-use parts::Outcome;
-use parts::Refusal;
-use parts::Slot;
-use parts::Work;
+use limits::MOST_CABINETS;
+use limits::MOST_CLIENTS;
+use limits::MOST_SLOTS;
+use limits::MOST_VERSIONS;
 use plan::Plan;
 use plan::Profile;
 use run::Run;
+use types::Answer;
+use types::Body;
+use types::Client;
+use types::Ending;
+use types::Held;
+use types::Message;
+use types::Outcome;
+use types::Slot;
+use types::Work;
+use types::refusal_number;
 
 fn mix(h: u64, x: u64) -> u64 {
     h % 1000000007 * 1000003 + x % 1000000007
@@ -56,7 +60,7 @@ fn cabinet(h: u64, k: Cabinet) -> u64 {
         g = mix(g, 1);
     }
     let mut i: usize = 0;
-    while i < 8 {
+    while i < MOST_VERSIONS {
         let e = v[i];
         g = entry(g, e);
         i += 1;
@@ -64,10 +68,10 @@ fn cabinet(h: u64, k: Cabinet) -> u64 {
     g
 }
 
-pub fn cabinets(l: [Cabinet; 9]) -> u64 {
+pub fn cabinets(l: [Cabinet; MOST_CABINETS]) -> u64 {
     let mut g: u64 = 0;
     let mut i: usize = 0;
-    while i < 9 {
+    while i < MOST_CABINETS {
         let k = l[i];
         g = cabinet(g, k);
         i += 1;
@@ -140,10 +144,10 @@ fn planned(h: u64, p: Plan) -> u64 {
     mix(mix(q, p.stores as u64), profile(f))
 }
 
-fn clients(h: u64, l: [Client; 8]) -> u64 {
+fn clients(h: u64, l: [Client; MOST_CLIENTS]) -> u64 {
     let mut g = h;
     let mut i: usize = 0;
-    while i < 8 {
+    while i < MOST_CLIENTS {
         let c = l[i];
         g = client(g, c);
         i += 1;
@@ -151,10 +155,10 @@ fn clients(h: u64, l: [Client; 8]) -> u64 {
     g
 }
 
-fn slots(h: u64, l: [Slot; 64]) -> u64 {
+fn slots(h: u64, l: [Slot; MOST_SLOTS]) -> u64 {
     let mut g = h;
     let mut i: usize = 0;
-    while i < 64 {
+    while i < MOST_SLOTS {
         let t = l[i];
         g = slot(g, t);
         i += 1;
@@ -170,23 +174,7 @@ pub fn rest(r: Run) -> u64 {
     slots(clients(planned(mix(0, r.steps as u64), p), c), s)
 }
 
-fn refusal_number(w: Refusal) -> u8 {
-    match w {
-        Refusal::Damaged => 1,
-        Refusal::Range => 2,
-        Refusal::Limit => 3,
-        Refusal::HasLeft => 4,
-        Refusal::NotIdle => 5,
-        Refusal::IsIdle => 6,
-        Refusal::Full => 7,
-        Refusal::NoMessage => 8,
-        Refusal::IsDown => 9,
-        Refusal::NoVersion => 10,
-        Refusal::TooMany => 11,
-    }
-}
-
-pub fn answer_number(a: Answer) -> u8 {
+pub fn answer_number(a: Answer) -> u64 {
     match a {
         Answer::Refused(w) => refusal_number(w),
         Answer::Accepted(_) => 0,
@@ -221,7 +209,7 @@ fn outcome(o: Outcome) -> u64 {
 
 pub fn answer(a: Answer) -> u64 {
     match a {
-        Answer::Refused(w) => mix(1, refusal_number(w) as u64),
+        Answer::Refused(w) => mix(1, refusal_number(w)),
         Answer::Accepted(o) => mix(2, outcome(o)),
     }
 }

@@ -3,11 +3,17 @@ use super::both::lent_number;
 use super::show;
 use super::sums;
 use cabinet::Cabinet;
-use parts::Step;
+use limits::MOST_CABINETS;
 use run::Run;
+use types::Step;
 
 // Whether a step left all as it was.
-fn kept(r: Run, table: [Cabinet; 9], after: Run, left: [Cabinet; 9]) -> bool {
+fn kept(
+    r: Run,
+    table: [Cabinet; MOST_CABINETS],
+    after: Run,
+    left: [Cabinet; MOST_CABINETS],
+) -> bool {
     let a = r.cabinets;
     let b = after.cabinets;
     if sums::rest(r) == sums::rest(after) {
@@ -19,7 +25,7 @@ fn kept(r: Run, table: [Cabinet; 9], after: Run, left: [Cabinet; 9]) -> bool {
     false
 }
 
-fn answered(r: Run, table: [Cabinet; 9], len: usize, word: &[u8]) {
+fn answered(r: Run, table: [Cabinet; MOST_CABINETS], len: usize, word: &[u8]) {
     let y = desk::step_local(r, table, len, Step::Stop(1));
     let z = y.served;
     let a = z.answer;
@@ -28,16 +34,16 @@ fn answered(r: Run, table: [Cabinet; 9], len: usize, word: &[u8]) {
     show::table(lent_number(a), word, kept(r, table, after, left));
 }
 
-fn lengths(r: Run, table: [Cabinet; 9]) {
+fn lengths(r: Run, table: [Cabinet; MOST_CABINETS]) {
     answered(r, table, 4, b"four records");
     answered(r, table, 3, b"three records");
     answered(r, table, 5, b"five records");
     answered(r, table, 0, b"no records");
-    answered(r, table, 9, b"nine records");
+    answered(r, table, MOST_CABINETS, b"nine records");
 }
 
 // A record that keeps no version is damaged.
-fn damage(r: Run, table: [Cabinet; 9]) {
+fn damage(r: Run, table: [Cabinet; MOST_CABINETS]) {
     let mut k = table[1];
     k.kept = 0;
     let mut lent = table;

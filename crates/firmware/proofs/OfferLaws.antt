@@ -1,26 +1,24 @@
 -- What the call answers and leaves, by what the two buffers hold. Assumes nothing.
 use Prim.Native.Nat.{ℕ}
-use mathlib.Core.Path.{_≡_, refl, sym, ap, ap₂, _∙_}
+use mathlib.Core.Path.{_≡_, refl, sym, ap₂, _∙_}
 use mathlib.Core.Bool.{Bool, true, false, cond}
 use mathlib.Core.List.{List}
 use native.Mathlib.Omega.{arith}
 use lib.Dec.{eqb}
 use lib.ListN.{length}
 use borrow.Author.Tests.{eqb-true, eq-eqb, ne-eqb}
-use Rattle.cabinet.specs.declared.entry.Entry.{Entry}
-use Rattle.cabinet.specs.Entries.{takes}
-use Rattle.firmware.specs.declared.layout.Decoded.{Decoded}
-use Rattle.firmware.specs.declared.layout.Decoded.the-variants.{NoEntry, Holds}
+use Rattle.firmware.specs.Names.{Decoded, Entry}
 use Rattle.firmware.specs.Layout.{entryOf, entryWith, readingOf, intAt, hyperAt}
 use Rattle.firmware.specs.Offer.{answers, answerOf, heldAfter}
 
 -- a buffer that holds an entry has 20 bytes
-twenty : (s : List ℕ) (m : Entry) → entryOf s ≡ Holds m → length s ≡ 20
+twenty : (s : List ℕ) (m : Entry) → entryOf s ≡ Decoded.Holds m → length s ≡ 20
 unfolding entryOf
 twenty s m = go _ refl
   where
     go : (t : Bool) → eqb (length s) 20 ≡ t
-        → cond t (entryWith (hyperAt s 0) (intAt s 8) (readingOf (intAt s 12) (intAt s 16))) NoEntry ≡ Holds m → length s ≡ 20
+        → cond t (entryWith (hyperAt s 0) (intAt s 8) (readingOf (intAt s 12) (intAt s 16))) Decoded.NoEntry ≡ Decoded.Holds m
+        → length s ≡ 20
     go true e h = eqb-true (length s) 20 e
     go false e h = absurd (let z : _≡_ {A = ℕ} 0 1 = cc in omega arith)
 
@@ -42,6 +40,6 @@ module _ (h o : List ℕ) (mine theirs : Decoded) (answer : ℕ) (d : mine ≡ e
   taken-length t = go mine theirs d f (sym j ∙ t)
     where
       go : (m t : Decoded) → m ≡ entryOf h → t ≡ entryOf o → answers m t ≡ 20 → length h ≡ length o
-      go NoEntry t d f e = absurd (omega arith)
-      go (Holds m) NoEntry d f e = absurd (omega arith)
-      go (Holds m) (Holds t) d f e = twenty h m (sym d) ∙ sym (twenty o t (sym f))
+      go Decoded.NoEntry t d f e = absurd (omega arith)
+      go (Decoded.Holds m) Decoded.NoEntry d f e = absurd (omega arith)
+      go (Decoded.Holds m) (Decoded.Holds t) d f e = twenty h m (sym d) ∙ sym (twenty o t (sym f))

@@ -4,15 +4,14 @@ use mathlib.Core.Bool.{cond}
 use mathlib.Core.List.{List}
 use lib.Dec.{eqb}
 use Rattle.cabinet.specs.Entries.{takes}
-use Rattle.firmware.specs.declared.layout.Decoded.{Decoded}
-use Rattle.firmware.specs.declared.layout.Decoded.the-variants.{NoEntry, Holds}
+use Rattle.firmware.specs.Names.{Decoded}
 use Rattle.firmware.specs.Layout.{entryOf}
 
 -- "It returns 20 (taken) or 21 (kept). It returns 2 if a length isn't 20, .."
 abbrev pub answers : Decoded → Decoded → ℕ
-answers NoEntry o = 2
-answers (Holds h) NoEntry = 2
-answers (Holds h) (Holds o) = cond (takes h o) 20 21
+answers Decoded.NoEntry o = 2
+answers (Decoded.Holds h) Decoded.NoEntry = 2
+answers (Decoded.Holds h) (Decoded.Holds o) = cond (takes h o) 20 21
 
 unfoldable pub answerOf : List ℕ → List ℕ → ℕ
 answerOf held offered = answers (entryOf held) (entryOf offered)

@@ -5,19 +5,13 @@ use mathlib.Core.Bool.{Bool, true, false, cond, not, _&&_, _||_}
 use native.Mathlib.Omega.{arith}
 use lib.Dec.{ltb, leb, eqb}
 use borrow.Author.Tests.{leb-true, le-leb, ltb-true, lt-ltb, eqb-true}
-use Rattle.plan.specs.declared.Plan.{Plan}
+use Rattle.limits.specs.Limits.{mostClients, mostVersions}
+use Rattle.guard.specs.Names.{Cabinet, Client, Entry, Heard, Plan, Reading, Stamp}
 use Rattle.plan.proofs.RuleLaws.{both}
-use Rattle.cabinet.specs.declared.entry.Entry.{Entry}
-use Rattle.cabinet.specs.declared.entry.Reading.{Reading}
-use Rattle.cabinet.specs.declared.entry.Reading.the-variants.{Unknown, Open, Closed}
-use Rattle.cabinet.specs.declared.entry.Stamp.{Stamp}
-use Rattle.cabinet.specs.declared.record.Cabinet.{Cabinet}
 use Rattle.cabinet.specs.Cabinets.{freshCabinet}
 use Rattle.cabinet.specs.Entries.{readingIn, isUnknown, isFactory, factoryEntry}
-use Rattle.heard.specs.declared.Heard.{Heard}
 use Rattle.heard.specs.Heard.{countOf, withinOf}
-use Rattle.parts.specs.declared.client.Client.{Client}
-use Rattle.parts.specs.Parts.{storedIn}
+use Rattle.types.specs.Parts.{storedIn}
 use Rattle.guard.specs.All.{allFrom}
 use Rattle.guard.specs.Damage.{stampSound, entrySound, versionSound, keptSound, recordSound, isUp, factoryAt, isFresh, cabinetSound, heardSound, workSound, clientSound}
 use Rattle.guard.proofs.AllLaws.{all-mono}
@@ -28,18 +22,19 @@ joined s t a b = rw (a, b)
 
 -- ---- stamps and entries
 
-pub stamp-says : (steps : ℕ) (s : Stamp) → stampSound steps s ≡ true → (s .counter ≤ steps) × (s .writer ≤ 8)
+pub stamp-says : (steps : ℕ) (s : Stamp) → stampSound steps s ≡ true → (s .counter ≤ steps) × (s .writer ≤ mostClients)
 unfolding stampSound
 stamp-says steps s h = let b = both (leb (s .counter) steps) _ h in (leb-true _ _ (b .0), leb-true _ _ (b .1))
 
-pub stamp-made : (steps : ℕ) (s : Stamp) → s .counter ≤ steps → s .writer ≤ 8 → stampSound steps s ≡ true
+pub stamp-made : (steps : ℕ) (s : Stamp) → s .counter ≤ steps → s .writer ≤ mostClients → stampSound steps s ≡ true
 unfolding stampSound
 stamp-made steps s c w = joined _ _ (le-leb _ _ c) (le-leb _ _ w)
 
 pub stamp-mono : (a b : ℕ) (s : Stamp) → a ≤ b → stampSound a s ≡ true → stampSound b s ≡ true
 stamp-mono a b s l h = let f = stamp-says a s h in stamp-made b s (omega arith) (f .1)
 
-pub entry-says : (steps : ℕ) (e : Entry) → entrySound steps e ≡ true → (stampSound steps (e .stamp) ≡ true) × (readingIn (e .reading) ≡ true)
+pub entry-says : (steps : ℕ) (e : Entry) → entrySound steps e ≡ true
+    → (stampSound steps (e .stamp) ≡ true) × (readingIn (e .reading) ≡ true)
 unfolding entrySound
 entry-says steps e h = both (stampSound steps (e .stamp)) _ h
 
@@ -50,10 +45,10 @@ entry-made steps e s r = joined _ _ s r
 pub entry-mono : (a b : ℕ) (e : Entry) → a ≤ b → entrySound a e ≡ true → entrySound b e ≡ true
 entry-mono a b e l h = let f = entry-says a e h in entry-made b e (stamp-mono a b (e .stamp) l (f .0)) (f .1)
 
-unknown-says : (r : Reading) → isUnknown r ≡ true → r ≡ Unknown
-unknown-says Unknown h = refl
-unknown-says (Open m) h = absurd (let z : _≡_ {A = ℕ} 0 1 = cc in omega arith)
-unknown-says Closed h = absurd (let z : _≡_ {A = ℕ} 0 1 = cc in omega arith)
+unknown-says : (r : Reading) → isUnknown r ≡ true → r ≡ Reading.Unknown
+unknown-says Reading.Unknown h = refl
+unknown-says (Reading.Open m) h = absurd (let z : _≡_ {A = ℕ} 0 1 = cc in omega arith)
+unknown-says Reading.Closed h = absurd (let z : _≡_ {A = ℕ} 0 1 = cc in omega arith)
 
 -- just the factory entry passes for it
 pub factory-says : (e : Entry) → isFactory e ≡ true → e ≡ factoryEntry
@@ -63,7 +58,7 @@ factory-says e h =
     let b = both (eqb (e .stamp .writer) 0) _ (a .1) in
     same (eqb-true _ _ (a .0)) (eqb-true _ _ (b .0)) (unknown-says (e .reading) (b .1))
   where
-    same : e .stamp .counter ≡ 0 → e .stamp .writer ≡ 0 → e .reading ≡ Unknown → e ≡ factoryEntry
+    same : e .stamp .counter ≡ 0 → e .stamp .writer ≡ 0 → e .reading ≡ Reading.Unknown → e ≡ factoryEntry
     same c w r = rw (c, w, r)
 
 pub factory-is : isFactory factoryEntry ≡ true
@@ -83,7 +78,8 @@ either-right : (s t : Bool) → t ≡ true → s || t ≡ true
 either-right true t h = refl
 either-right false t h = h
 
-pub version-says : (steps kept i : ℕ) (e : Entry) → versionSound steps kept i e ≡ true → (entrySound steps e ≡ true) × (ltb i kept || isFactory e ≡ true)
+pub version-says : (steps kept i : ℕ) (e : Entry) → versionSound steps kept i e ≡ true
+    → (entrySound steps e ≡ true) × (ltb i kept || isFactory e ≡ true)
 unfolding versionSound
 version-says steps kept i e h = both (entrySound steps e) _ h
 
@@ -106,18 +102,19 @@ pub version-factory : (steps kept i : ℕ) → versionSound steps kept i factory
 unfolding versionSound isFactory
 version-factory steps kept i = joined _ _ (factory-made steps) (either-right (ltb i kept) _ refl)
 
-pub version-mono : (a b kept i : ℕ) (e : Entry) → a ≤ b → versionSound a kept i e ≡ true → versionSound b kept i e ≡ true
+version-mono : (a b kept i : ℕ) (e : Entry) → a ≤ b → versionSound a kept i e ≡ true → versionSound b kept i e ≡ true
 unfolding versionSound
 version-mono a b kept i e l h = let f = both (entrySound a e) _ h in joined _ _ (entry-mono a b e l (f .0)) (f .1)
 
-pub kept-says : (stored : Bool) (kept : ℕ) → keptSound stored kept ≡ true → (1 ≤ kept) × (kept ≤ 8) × (stored || eqb kept 1 ≡ true)
+pub kept-says : (stored : Bool) (kept : ℕ) → keptSound stored kept ≡ true
+    → (1 ≤ kept) × (kept ≤ mostVersions) × (stored || eqb kept 1 ≡ true)
 unfolding keptSound
 kept-says stored kept h =
     let b = both (leb 1 kept) _ h in
-    let d = both (leb kept 8) _ (b .1) in
+    let d = both (leb kept mostVersions) _ (b .1) in
     (leb-true _ _ (b .0), leb-true _ _ (d .0), d .1)
 
-pub kept-made : (stored : Bool) (kept : ℕ) → 1 ≤ kept → kept ≤ 8 → stored || eqb kept 1 ≡ true → keptSound stored kept ≡ true
+pub kept-made : (stored : Bool) (kept : ℕ) → 1 ≤ kept → kept ≤ mostVersions → stored || eqb kept 1 ≡ true → keptSound stored kept ≡ true
 unfolding keptSound
 kept-made stored kept a b h = joined _ _ (le-leb _ _ a) (joined _ _ (le-leb _ _ b) h)
 
@@ -131,7 +128,7 @@ pub record-made : (steps : ℕ) (stored : Bool) (k : Cabinet) → keptSound stor
 unfolding recordSound
 record-made steps stored k h v = joined _ _ h v
 
-pub record-mono : (a b : ℕ) (stored : Bool) (k : Cabinet) → a ≤ b → recordSound a stored k ≡ true → recordSound b stored k ≡ true
+record-mono : (a b : ℕ) (stored : Bool) (k : Cabinet) → a ≤ b → recordSound a stored k ≡ true → recordSound b stored k ≡ true
 record-mono a b stored k l h =
     let f = record-says a stored k h in
     record-made b stored k (f .0) (all-mono _ _ 0 (k .versions) (λ i e. version-mono a b (k .kept) i e l) (f .1))
@@ -151,7 +148,8 @@ pub cabinet-mono : (plan : Plan) (a b i : ℕ) (k : Cabinet) → a ≤ b → cab
 unfolding cabinetSound
 cabinet-mono plan a b i k l = go (ltb i (plan .n))
   where
-    go : (t : Bool) → cond t (recordSound a (storedIn plan i) k) (isFresh k) ≡ true → cond t (recordSound b (storedIn plan i) k) (isFresh k) ≡ true
+    go : (t : Bool) → cond t (recordSound a (storedIn plan i) k) (isFresh k) ≡ true
+        → cond t (recordSound b (storedIn plan i) k) (isFresh k) ≡ true
     go true h = record-mono a b (storedIn plan i) k l h
     go false h = h
 

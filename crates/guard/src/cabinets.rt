@@ -3,6 +3,9 @@ use super::entries;
 use cabinet::Cabinet;
 use cabinet::Entry;
 use cabinet::Power;
+use limits::MOST_CABINETS;
+use limits::MOST_VERSIONS;
+use limits::byte;
 use plan::Plan;
 ghost use mathlib.Core.Path.{_≡_};
 ghost use Rattle.guard.specs.All.{allFrom};
@@ -20,11 +23,11 @@ fn version_sound(steps: u32, kept: u8, i: usize, e: Entry) -> bool
     false
 }
 
-fn versions_sound(steps: u32, kept: u8, versions: [Entry; 8]) -> bool
+fn versions_sound(steps: u32, kept: u8, versions: [Entry; MOST_VERSIONS]) -> bool
     ensures { λ r. ⌜ r ≡ allFrom (versionSound steps kept) 0 versions ⌝ }
 {
     let mut i: usize = 0;
-    while i < 8 {
+    while i < MOST_VERSIONS {
         let e = versions[i];
         if version_sound(steps, kept, i, e) {
             i += 1;
@@ -41,7 +44,7 @@ fn kept_sound(stored: bool, kept: u8) -> bool
     if kept < 1 {
         return false;
     }
-    if 8 < kept {
+    if byte::MOST_VERSIONS < kept {
         return false;
     }
     if stored {
@@ -62,11 +65,11 @@ pub fn record_sound(steps: u32, stored: bool, k: Cabinet) -> bool
     false
 }
 
-fn all_factory(versions: [Entry; 8]) -> bool
+fn all_factory(versions: [Entry; MOST_VERSIONS]) -> bool
     ensures { λ r. ⌜ r ≡ allFrom factoryAt 0 versions ⌝ }
 {
     let mut i: usize = 0;
-    while i < 8 {
+    while i < MOST_VERSIONS {
         let e = versions[i];
         if e.is_factory() {
             i += 1;
@@ -113,11 +116,11 @@ fn cabinet_sound(plan: Plan, steps: u32, i: usize, k: Cabinet) -> bool
     is_fresh(k)
 }
 
-pub fn cabinets_sound(plan: Plan, steps: u32, cabinets: [Cabinet; 9]) -> bool
+pub fn cabinets_sound(plan: Plan, steps: u32, cabinets: [Cabinet; MOST_CABINETS]) -> bool
     ensures { λ r. ⌜ r ≡ allFrom (cabinetSound plan steps) 0 cabinets ⌝ }
 {
     let mut i: usize = 0;
-    while i < 9 {
+    while i < MOST_CABINETS {
         let k = cabinets[i];
         if cabinet_sound(plan, steps, i, k) {
             i += 1;

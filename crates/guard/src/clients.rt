@@ -1,9 +1,10 @@
 // Clients that an undamaged run may hold.
 use super::entries;
 use heard::Heard;
-use parts::Client;
-use parts::Work;
+use limits::MOST_CLIENTS;
 use plan::Plan;
+use types::Client;
+use types::Work;
 ghost use mathlib.Core.Path.{_≡_};
 ghost use Rattle.guard.specs.All.{allFrom};
 ghost use Rattle.guard.specs.Damage.{heardSound, workSound, clientSound};
@@ -51,11 +52,11 @@ fn client_sound(plan: Plan, steps: u32, c: Client) -> bool
     false
 }
 
-pub fn clients_sound(plan: Plan, steps: u32, clients: [Client; 8]) -> bool
+pub fn clients_sound(plan: Plan, steps: u32, clients: [Client; MOST_CLIENTS]) -> bool
     ensures { λ r. ⌜ r ≡ allFrom (clientSound plan steps) 0 clients ⌝ }
 {
     let mut i: usize = 0;
-    while i < 8 {
+    while i < MOST_CLIENTS {
         let c = clients[i];
         if client_sound(plan, steps, c) {
             i += 1;

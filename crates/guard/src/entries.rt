@@ -1,17 +1,15 @@
 // Stamps and entries that an undamaged run may hold.
 use cabinet::Entry;
 use cabinet::Stamp;
+use limits::byte;
 ghost use mathlib.Core.Path.{_≡_};
 ghost use Rattle.guard.specs.Damage.{stampSound, entrySound};
-
-// The highest number of a client, and so of a writer.
-pub const MOST_WRITER: u8 = 8;
 
 pub fn stamp_sound(steps: u32, s: Stamp) -> bool
     ensures { λ r. ⌜ r ≡ stampSound steps s ⌝ }
 {
     if s.counter <= steps as u64 {
-        return s.writer <= MOST_WRITER;
+        return s.writer <= byte::MOST_CLIENTS;
     }
     false
 }

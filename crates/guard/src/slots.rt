@@ -1,9 +1,11 @@
 // Messages that an undamaged run may hold.
 use super::entries;
-use parts::Body;
-use parts::Held;
-use parts::Message;
-use parts::Slot;
+use limits::MOST_SLOTS;
+use limits::byte;
+use types::Body;
+use types::Held;
+use types::Message;
+use types::Slot;
 ghost use mathlib.Core.Path.{_≡_};
 ghost use Rattle.guard.specs.All.{allFrom};
 ghost use Rattle.guard.specs.Damage.{requestFirst, requestSecond, replyFirst, replySecond, requestSound, replySound, addressSound, slotSound};
@@ -88,7 +90,7 @@ fn address_sound(n: u8, steps: u32, m: Message) -> bool
     ensures { λ r. ⌜ r ≡ addressSound n steps m ⌝ }
 {
     if m.operation <= steps {
-        if m.client < 8 {
+        if m.client < byte::MOST_CLIENTS {
             return m.cabinet < n;
         }
         return false;
@@ -121,11 +123,11 @@ fn slot_sound(n: u8, steps: u32, t: Slot) -> bool
     }
 }
 
-pub fn slots_sound(n: u8, steps: u32, slots: [Slot; 64]) -> bool
+pub fn slots_sound(n: u8, steps: u32, slots: [Slot; MOST_SLOTS]) -> bool
     ensures { λ r. ⌜ r ≡ allFrom (slotSound n steps) 0 slots ⌝ }
 {
     let mut j: usize = 0;
-    while j < 64 {
+    while j < MOST_SLOTS {
         let t = slots[j];
         if slot_sound(n, steps, t) {
             j += 1;

@@ -1,17 +1,15 @@
 -- Which plans are worth choosing, over the planning rule's own answers.
 use Prim.Native.Nat.{ℕ, _+_}
-use mathlib.Core.Bool.{Bool, true, false, _&&_, not}
+use mathlib.Core.Bool.{Bool, false, _&&_, not}
 use lib.Dec.{leb}
 use Rattle.plan.specs.Rule.{planOf}
-use Rattle.plan.specs.declared.Plan.{Plan}
-use Rattle.plan.specs.declared.Planned.{Planned}
-use Rattle.plan.specs.declared.Planned.the-variants.{OutOfRange, TooSmall, Accepted}
+use Rattle.plans.specs.Names.{Plan, Planned}
 
 -- an accepted plan that needs no more stores than these
 abbrev pub affords : Planned → ℕ → Bool
-affords OutOfRange s = false
-affords TooSmall s = false
-affords (Accepted q) s = leb (q .stores) s
+affords Planned.OutOfRange s = false
+affords Planned.TooSmall s = false
+affords (Planned.Accepted q) s = leb (q .stores) s
 
 -- with no more stores the line cannot bear one more faulty cabinet, nor one more that rolls back, nor one more sound one that restarts
 unfoldable pub worth : Plan → Bool

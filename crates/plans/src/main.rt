@@ -1,5 +1,7 @@
-// Prints the plans worth choosing for 2 to 9 cabinets, as a Markdown table. Every plan is an answer of the planning rule.
+// Prints the plans worth choosing for every number of cabinets, as a Markdown table. Every plan is an answer of the planning rule.
 use libc::STDOUT_FILENO;
+use limits::FEWEST_CABINETS;
+use limits::MOST_CABINETS;
 use plan::Plan;
 use plan::Planned;
 use plan::Profile;
@@ -110,7 +112,7 @@ fn main() {
         b"| n | k | r | b | Profile | Stores | Write quorum | Read quorum |\n",
     );
     io::write_all(STDOUT_FILENO, b"|---|---|---|---|---|---|---|---|\n");
-    for n in plan::FEWEST_CABINETS..=plan::MOST_CABINETS {
+    for n in FEWEST_CABINETS as u64..=MOST_CABINETS as u64 {
         over_faulty(n, false);
         over_faulty(n, true);
     }

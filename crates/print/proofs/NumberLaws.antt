@@ -20,7 +20,8 @@ enough zero n h = let e : n < 10 = omega (arith, pow-suc 10 0) in rw (lt-ltb _ _
 enough (suc k) n h = go (ltb n 10) (enough k (n / 10) (tenth n (10 ^ suc k) (omega (arith, pow-suc 10 (suc k)))))
   where
     go : (t : Bool) → digitsBy (suc k) (n / 10) ≡ digitsBy (suc (suc k)) (n / 10)
-        → cond t (digit n ∷ []) (digitsBy (suc k) (n / 10) ++ (digit (n % 10) ∷ [])) ≡ cond t (digit n ∷ []) (digitsBy (suc (suc k)) (n / 10) ++ (digit (n % 10) ∷ []))
+        → cond t (digit n ∷ []) (digitsBy (suc k) (n / 10) ++ (digit (n % 10) ∷ [])) ≡ cond t (digit n ∷ [])
+        (digitsBy (suc (suc k)) (n / 10) ++ (digit (n % 10) ∷ []))
     go true e = refl
     go false e = rw e
 
@@ -74,4 +75,5 @@ decimal-then-eight n h k =
     let a : n / 10000 / 10000 ≡ n / 100000000 = omega arith in
     let b : n / 10000 % 10000 ≡ n % 100000000 / 10000 = omega arith in
     let c : n % 10000 ≡ n % 100000000 % 10000 = omega arith in
-    rw (← decimal-then-four n (omega arith) k, ← decimal-then-four (n / 10000) (omega arith) (omega arith), ← a, ← b, ← c) (simp append-assoc)
+    rw (← decimal-then-four n (omega arith) k, ← decimal-then-four (n / 10000) (omega arith) (omega arith), ← a, ← b, ← c)
+    (simp append-assoc)

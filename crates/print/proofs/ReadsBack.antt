@@ -30,7 +30,8 @@ unfolding digitsBy
 value-by zero n h = omega (arith, value-none)
 value-by (suc k) n h = go (ltb n 10) (value-by k (n / 10) (tenth n (10 ^ k) (omega (arith, pow-suc 10 k))))
   where
-    go : (t : Bool) → valueFrom 0 (digitsBy k (n / 10)) ≡ n / 10 → valueFrom 0 (cond t (digit n ∷ []) (digitsBy k (n / 10) ++ (digit (n % 10) ∷ []))) ≡ n
+    go : (t : Bool) → valueFrom 0 (digitsBy k (n / 10)) ≡ n / 10
+        → valueFrom 0 (cond t (digit n ∷ []) (digitsBy k (n / 10) ++ (digit (n % 10) ∷ []))) ≡ n
     go true e = value-one n
     go false e = omega (arith, value-last 0 (digitsBy k (n / 10)) (digit (n % 10)))
 
@@ -49,7 +50,8 @@ unfolding digitsBy
 digits-by zero n = tt
 digits-by (suc k) n = go (ltb n 10) refl (digits-by k (n / 10))
   where
-    go : (t : Bool) → ltb n 10 ≡ t → Digits (digitsBy k (n / 10)) → Digits (cond t (digit n ∷ []) (digitsBy k (n / 10) ++ (digit (n % 10) ∷ [])))
+    go : (t : Bool) → ltb n 10 ≡ t → Digits (digitsBy k (n / 10))
+        → Digits (cond t (digit n ∷ []) (digitsBy k (n / 10) ++ (digit (n % 10) ∷ [])))
     go true e w = (omega (arith, ltb-true n 10 e), tt)
     go false e w = digits-append (digitsBy k (n / 10)) (digit (n % 10) ∷ []) w (omega arith, tt)
 
@@ -62,7 +64,8 @@ decimal-digits n = digits-by 20 n
 leads-by : (k n : ℕ) → 0 < n → n < 10 ^ k → (0 < length (digitsBy k n)) × (48 < getD (digitsBy k n) 0 0)
 unfolding digitsBy
 leads-by zero n h g = omega arith
-leads-by (suc k) n h g = go (ltb n 10) refl (λ (f : 10 ≤ n). leads-by k (n / 10) (omega arith) (tenth n (10 ^ k) (omega (arith, pow-suc 10 k))))
+leads-by (suc k) n h g =
+    go (ltb n 10) refl (λ (f : 10 ≤ n). leads-by k (n / 10) (omega arith) (tenth n (10 ^ k) (omega (arith, pow-suc 10 k))))
   where
     go : (t : Bool) → ltb n 10 ≡ t
         → (10 ≤ n → (0 < length (digitsBy k (n / 10))) × (48 < getD (digitsBy k (n / 10)) 0 0))

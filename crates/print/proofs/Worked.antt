@@ -2,28 +2,24 @@
 use mathlib.Core.List.{_++_}
 use mathlib.Core.Path.{_≡_, refl}
 use lib.ListN.{length}
-use Rattle.cabinet.specs.declared.entry.Reading.the-variants.{Open}
-use Rattle.parts.specs.declared.answer.Answer.the-variants.{Refused, Accepted}
-use Rattle.parts.specs.declared.answer.Ending.the-variants.{Chosen, Written}
-use Rattle.parts.specs.declared.answer.Outcome.the-variants.{Begun, Sent, Answered, Unanswered, Counted, Ended, Restarted}
-use Rattle.parts.specs.declared.answer.Refusal.the-variants.{NoMessage}
+use Rattle.print.specs.Names.{Answer, Ending, Outcome, Reading, Refusal}
 use Rattle.plan.specs.Rule.{inRange, chosen, planOf}
 use Rattle.print.specs.Numbers.{digitsBy, decimal}
 use Rattle.print.specs.Rows.{rowText, stepText, planText, refusalText, noHeaderText, headText, room}
-use Rattle.print.specs.Words.{bytes}
+use Rattle.types.specs.Texts.{bytes}
 
 -- the whole output of case R1
 pub r1-output
     : headText
     ++ planText 1 (planOf 3 1 0 0)
-    ++ stepText 2 (Accepted Begun)
-    ++ stepText 3 (Accepted (Sent 1))
-    ++ stepText 4 (Accepted (Answered 1))
-    ++ stepText 5 (Accepted (Counted 1))
-    ++ stepText 6 (Accepted Restarted)
-    ++ stepText 7 (Accepted (Sent 1))
-    ++ stepText 8 (Accepted (Unanswered 1))
-    ++ stepText 9 (Refused NoMessage)
+    ++ stepText 2 (Answer.Accepted Outcome.Begun)
+    ++ stepText 3 (Answer.Accepted (Outcome.Sent 1))
+    ++ stepText 4 (Answer.Accepted (Outcome.Answered 1))
+    ++ stepText 5 (Answer.Accepted (Outcome.Counted 1))
+    ++ stepText 6 (Answer.Accepted Outcome.Restarted)
+    ++ stepText 7 (Answer.Accepted (Outcome.Sent 1))
+    ++ stepText 8 (Answer.Accepted (Outcome.Unanswered 1))
+    ++ stepText 9 (Answer.Refused Refusal.NoMessage)
     ≡ bytes "row,answer,outcome,slot,counter,writer,entry\n"
     ++ bytes "1,0,forgetful,,,,\n"
     ++ bytes "2,0,begun,,,,\n"
@@ -42,14 +38,14 @@ pub other-rows
     : (planText 1 (planOf 3 1 1 1) ≡ bytes "1,12,refused,,,,\n")
     × (refusalText 10 ≡ bytes "10,2,refused,,,,\n")
     × (noHeaderText ≡ bytes "0,13,refused,,,,\n")
-    × (stepText 12 (Accepted (Ended Chosen 3 (record { stamp = record { counter = 1; writer = 1 }; reading = Open 6 })))
+    × (stepText 12 (Answer.Accepted (Outcome.Ended Ending.Chosen 3 (record { stamp = record { counter = 1; writer = 1 }; reading = Reading.Open 6 })))
     ≡ bytes "12,0,chosen,3,1,1,open 6\n")
 unfolding planText refusalText noHeaderText stepText rowText decimal digitsBy planOf inRange chosen
 other-rows = (refl, refl, refl, refl)
 
 -- the room that each function requires is needed: this row takes all of it
 pub longest-row
-    : length (stepText 18446744073709551615 (Accepted (Ended Written 255 (record { stamp = record { counter = 18446744073709551615; writer = 255 }; reading = Open 255 }))))
+    : length (stepText 18446744073709551615 (Answer.Accepted (Outcome.Ended Ending.Written 255 (record { stamp = record { counter = 18446744073709551615; writer = 255 }; reading = Reading.Open 255 }))))
     ≡ room
 unfolding stepText rowText decimal digitsBy
 longest-row = refl

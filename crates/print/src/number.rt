@@ -6,7 +6,7 @@ ghost use Prim.Native.Nat.{_<_, _≤_, _+_};
 ghost use lib.ListN.{length};
 ghost use Rattle.print.specs.Numbers.{digit, pair, four, eight, decimal};
 ghost use Rattle.print.specs.Put.{Wrote};
-ghost use Rattle.print.specs.Words.{bytes};
+ghost use Rattle.types.specs.Texts.{bytes};
 
 fn put_digit(buf: &mut [u8], at: usize, n: u64) -> usize
     requires { ⌜ (n < 10) × (at < length (now buf)) ⌝ }

@@ -4,18 +4,17 @@ use super::outcome::put_ending;
 use super::outcome::put_entry;
 use super::outcome::put_slot;
 use cabinet::Entry;
-use parts::Ending;
-ghost use mathlib.Core.Path.{_≡_};
+use types::Ending;
+ghost use Rattle.types.specs.declared.answer.Answer.{Answer};
+ghost use Rattle.types.specs.declared.answer.Outcome.{Outcome};
 ghost use Prim.Native.Nat.{_+_, _≤_};
 ghost use lib.ListN.{length};
-ghost use Rattle.parts.specs.declared.answer.Answer.the-variants.{Accepted};
-ghost use Rattle.parts.specs.declared.answer.Outcome.the-variants.{Sent, Answered, Unanswered, Discarded, Counted, Ended};
-ghost use Rattle.print.specs.Put.{put};
+ghost use Rattle.print.specs.Put.{Wrote};
 ghost use Rattle.print.specs.Rows.{room, stepText};
 
 pub fn put_sent(buf: &mut [u8], at: usize, row: u64, slot: u8) -> usize
     requires { ⌜ at + room ≤ length (now buf) ⌝ }
-    ensures { λ r. ⌜ (now (buf .exit) ≡ put (now (buf .entry)) at (stepText row (Accepted (Sent slot)))) × (r ≡ at + length (stepText row (Accepted (Sent slot)))) ⌝ }
+    ensures { λ r. ⌜ Wrote (now (buf .entry)) at (stepText row (Answer.Accepted (Outcome.Sent slot))) (now (buf .exit)) r ⌝ }
     ensures { λ r. ⌜ r ≤ at + room ⌝ }
 {
     let i = put_number(buf, at, row);
@@ -24,7 +23,7 @@ pub fn put_sent(buf: &mut [u8], at: usize, row: u64, slot: u8) -> usize
 
 pub fn put_answered(buf: &mut [u8], at: usize, row: u64, slot: u8) -> usize
     requires { ⌜ at + room ≤ length (now buf) ⌝ }
-    ensures { λ r. ⌜ (now (buf .exit) ≡ put (now (buf .entry)) at (stepText row (Accepted (Answered slot)))) × (r ≡ at + length (stepText row (Accepted (Answered slot)))) ⌝ }
+    ensures { λ r. ⌜ Wrote (now (buf .entry)) at (stepText row (Answer.Accepted (Outcome.Answered slot))) (now (buf .exit)) r ⌝ }
     ensures { λ r. ⌜ r ≤ at + room ⌝ }
 {
     let i = put_number(buf, at, row);
@@ -33,7 +32,7 @@ pub fn put_answered(buf: &mut [u8], at: usize, row: u64, slot: u8) -> usize
 
 pub fn put_unanswered(buf: &mut [u8], at: usize, row: u64, slot: u8) -> usize
     requires { ⌜ at + room ≤ length (now buf) ⌝ }
-    ensures { λ r. ⌜ (now (buf .exit) ≡ put (now (buf .entry)) at (stepText row (Accepted (Unanswered slot)))) × (r ≡ at + length (stepText row (Accepted (Unanswered slot)))) ⌝ }
+    ensures { λ r. ⌜ Wrote (now (buf .entry)) at (stepText row (Answer.Accepted (Outcome.Unanswered slot))) (now (buf .exit)) r ⌝ }
     ensures { λ r. ⌜ r ≤ at + room ⌝ }
 {
     let i = put_number(buf, at, row);
@@ -42,7 +41,7 @@ pub fn put_unanswered(buf: &mut [u8], at: usize, row: u64, slot: u8) -> usize
 
 pub fn put_discarded(buf: &mut [u8], at: usize, row: u64, slot: u8) -> usize
     requires { ⌜ at + room ≤ length (now buf) ⌝ }
-    ensures { λ r. ⌜ (now (buf .exit) ≡ put (now (buf .entry)) at (stepText row (Accepted (Discarded slot)))) × (r ≡ at + length (stepText row (Accepted (Discarded slot)))) ⌝ }
+    ensures { λ r. ⌜ Wrote (now (buf .entry)) at (stepText row (Answer.Accepted (Outcome.Discarded slot))) (now (buf .exit)) r ⌝ }
     ensures { λ r. ⌜ r ≤ at + room ⌝ }
 {
     let i = put_number(buf, at, row);
@@ -51,7 +50,7 @@ pub fn put_discarded(buf: &mut [u8], at: usize, row: u64, slot: u8) -> usize
 
 pub fn put_counted(buf: &mut [u8], at: usize, row: u64, slot: u8) -> usize
     requires { ⌜ at + room ≤ length (now buf) ⌝ }
-    ensures { λ r. ⌜ (now (buf .exit) ≡ put (now (buf .entry)) at (stepText row (Accepted (Counted slot)))) × (r ≡ at + length (stepText row (Accepted (Counted slot)))) ⌝ }
+    ensures { λ r. ⌜ Wrote (now (buf .entry)) at (stepText row (Answer.Accepted (Outcome.Counted slot))) (now (buf .exit)) r ⌝ }
     ensures { λ r. ⌜ r ≤ at + room ⌝ }
 {
     let i = put_number(buf, at, row);
@@ -60,7 +59,7 @@ pub fn put_counted(buf: &mut [u8], at: usize, row: u64, slot: u8) -> usize
 
 pub fn put_ended(buf: &mut [u8], at: usize, row: u64, how: Ending, slot: u8, shown: Entry) -> usize
     requires { ⌜ at + room ≤ length (now buf) ⌝ }
-    ensures { λ r. ⌜ (now (buf .exit) ≡ put (now (buf .entry)) at (stepText row (Accepted (Ended how slot shown)))) × (r ≡ at + length (stepText row (Accepted (Ended how slot shown)))) ⌝ }
+    ensures { λ r. ⌜ Wrote (now (buf .entry)) at (stepText row (Answer.Accepted (Outcome.Ended how slot shown))) (now (buf .exit)) r ⌝ }
     ensures { λ r. ⌜ r ≤ at + room ⌝ }
 {
     let i = put_number(buf, at, row);

@@ -6,14 +6,15 @@ use super::put::put_byte;
 use super::put::put_bytes;
 use cabinet::Entry;
 use cabinet::Reading;
-use parts::Ending;
-use parts::Outcome;
+use types::Ending;
+use types::Outcome;
 ghost use mathlib.Core.List.{_∷_, [], _++_};
 ghost use Prim.Native.Nat.{_≤_, _+_};
 ghost use lib.ListN.{length};
 ghost use Rattle.print.specs.Put.{Wrote};
 ghost use Rattle.print.specs.Rows.{fields, slotShown, entryShown, outcomeShown, acceptedFields};
-ghost use Rattle.print.specs.Words.{bytes, endingWord, outcomeWord, readingText};
+ghost use Rattle.types.specs.Texts.{bytes};
+ghost use Rattle.print.specs.Words.{endingWord, outcomeWord, readingText};
 
 // `word` is a byte string at each call, answer and commas among its bytes.
 pub fn put_slot(buf: &mut [u8], at: usize, word: &[u8], slot: u8) -> usize

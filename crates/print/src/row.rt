@@ -2,20 +2,19 @@
 use super::answer::NO_HEADER;
 use super::answer::OUT_OF_RANGE;
 use super::answer::TOO_SMALL;
-use super::answer::refusal_number;
 use super::number::put_number;
 use super::number::put_short_field;
 use super::outcome::put_outcome;
 use super::put::put_bytes;
-use parts::Answer;
-use parts::Refusal;
 use plan::Planned;
 use plan::Profile;
-ghost use mathlib.Core.Path.{_≡_};
+use types::Answer;
+use types::Refusal;
+use types::refusal_number;
 ghost use mathlib.Core.List.{_∷_};
 ghost use Prim.Native.Nat.{_<_, _≤_, _+_};
 ghost use lib.ListN.{length};
-ghost use Rattle.print.specs.Put.{put, Wrote};
+ghost use Rattle.print.specs.Put.{Wrote};
 ghost use Rattle.print.specs.Rows.{fields, refused, noneShown, acceptedFields, stepText, planText, refusalText, noHeaderText, headText, room};
 ghost use Rattle.print.specs.Words.{profileWord};
 
@@ -41,7 +40,7 @@ fn put_profile(buf: &mut [u8], at: usize, profile: Profile) -> usize
 
 pub fn put_step(buf: &mut [u8], at: usize, row: u64, answer: Answer) -> usize
     requires { ⌜ at + room ≤ length (now buf) ⌝ }
-    ensures { λ r. ⌜ (now (buf .exit) ≡ put (now (buf .entry)) at (stepText row answer)) × (r ≡ at + length (stepText row answer)) ⌝ }
+    ensures { λ r. ⌜ Wrote (now (buf .entry)) at (stepText row answer) (now (buf .exit)) r ⌝ }
     ensures { λ r. ⌜ r ≤ at + room ⌝ }
 {
     let i = put_number(buf, at, row);
@@ -53,7 +52,7 @@ pub fn put_step(buf: &mut [u8], at: usize, row: u64, answer: Answer) -> usize
 
 pub fn put_plan(buf: &mut [u8], at: usize, row: u64, planned: Planned) -> usize
     requires { ⌜ at + room ≤ length (now buf) ⌝ }
-    ensures { λ r. ⌜ (now (buf .exit) ≡ put (now (buf .entry)) at (planText row planned)) × (r ≡ at + length (planText row planned)) ⌝ }
+    ensures { λ r. ⌜ Wrote (now (buf .entry)) at (planText row planned) (now (buf .exit)) r ⌝ }
     ensures { λ r. ⌜ r ≤ at + room ⌝ }
 {
     let i = put_number(buf, at, row);
@@ -70,7 +69,7 @@ pub fn put_plan(buf: &mut [u8], at: usize, row: u64, planned: Planned) -> usize
 // The row of an input row that has another form than a step's.
 pub fn put_refusal(buf: &mut [u8], at: usize, row: u64) -> usize
     requires { ⌜ at + room ≤ length (now buf) ⌝ }
-    ensures { λ r. ⌜ (now (buf .exit) ≡ put (now (buf .entry)) at (refusalText row)) × (r ≡ at + length (refusalText row)) ⌝ }
+    ensures { λ r. ⌜ Wrote (now (buf .entry)) at (refusalText row) (now (buf .exit)) r ⌝ }
     ensures { λ r. ⌜ r ≤ at + room ⌝ }
 {
     let i = put_number(buf, at, row);
@@ -79,7 +78,7 @@ pub fn put_refusal(buf: &mut [u8], at: usize, row: u64) -> usize
 
 pub fn put_head(buf: &mut [u8], at: usize) -> usize
     requires { ⌜ at + room ≤ length (now buf) ⌝ }
-    ensures { λ r. ⌜ (now (buf .exit) ≡ put (now (buf .entry)) at headText) × (r ≡ at + length headText) ⌝ }
+    ensures { λ r. ⌜ Wrote (now (buf .entry)) at headText (now (buf .exit)) r ⌝ }
     ensures { λ r. ⌜ r ≤ at + room ⌝ }
 {
     put_bytes(buf, at, b"row,answer,outcome,slot,counter,writer,entry\n")
@@ -88,7 +87,7 @@ pub fn put_head(buf: &mut [u8], at: usize) -> usize
 // The single row of an input whose header row is missing or different.
 pub fn put_no_header(buf: &mut [u8], at: usize) -> usize
     requires { ⌜ at + room ≤ length (now buf) ⌝ }
-    ensures { λ r. ⌜ (now (buf .exit) ≡ put (now (buf .entry)) at noHeaderText) × (r ≡ at + length noHeaderText) ⌝ }
+    ensures { λ r. ⌜ Wrote (now (buf .entry)) at noHeaderText (now (buf .exit)) r ⌝ }
     ensures { λ r. ⌜ r ≤ at + room ⌝ }
 {
     let i = put_number(buf, at, 0);

@@ -6,15 +6,13 @@ use mathlib.Core.List.{List, [], _∷_}
 use mathlib.Core.Logic.{_⊎_, inl, inr, ⊎-elim}
 use lib.ListN.{getD, take, drop, length}
 use lib.Seq.{getD-drop}
-use Rattle.plan.specs.declared.Profile.{Profile}
-use Rattle.plan.specs.declared.Profile.the-variants.{Forgetful, Store}
-use Rattle.cabinet.specs.declared.entry.Entry.{Entry}
-use Rattle.cabinet.specs.declared.record.Cabinet.{Cabinet}
+use Rattle.limits.specs.Limits.{mostVersions}
+use Rattle.promise.specs.Names.{Cabinet, Entry, Profile}
 use Rattle.cabinet.specs.Cabinets.{presentOf, taken, offered, stopped, restarted, keepsOlder, olderBy, rolledBack}
 use Rattle.cabinet.specs.Entries.{factoryEntry}
 use Rattle.cabinet.proofs.CabinetLaws.{offer-taken, offer-kept, taken-shows}
 use Rattle.cabinet.proofs.ListLaws.{getD-filled}
-use Rattle.parts.specs.Parts.{isForgetful}
+use Rattle.types.specs.Parts.{isForgetful}
 use Rattle.promise.proofs.Stamps.{_⊑_, _⊏_, ⊑-refl, ⊏-⊑, later-cases}
 use Rattle.promise.proofs.SimView.{lapsedIn, weakIn, set-cases}
 
@@ -22,7 +20,7 @@ use Rattle.promise.proofs.SimView.{lapsedIn, weakIn, set-cases}
 abbrev pub From : (Entry → Type 0) → Cabinet → Entry → Type 0
 From O y e = ((i : ℕ) × (getD (y .versions) i factoryEntry ≡ e)) ⊎ O e ⊎ (e ≡ factoryEntry)
 
--- cabinet y may become x, in this profile, at a place with or without a store
+-- cabinet y may become x, in this profile, at a place with or without a store: I1 .. I3 of one cabinet, and where its entries come from
 pub record Fit (f : Profile) (stored : Bool) (O : Entry → Type 0) (y x : Cabinet) : Type 0 where
   pub up : (presentOf y .stamp ⊑ presentOf x .stamp) ⊎ (lapsedIn f stored x ≡ true)
   pub lapsed-on : lapsedIn f stored y ≡ true → lapsedIn f stored x ≡ true
@@ -53,15 +51,16 @@ taken-same true e y = (refl, refl)
 taken-same false e y = (refl, refl)
 
 -- neither test looks at more than power and mark
-lapsed-by : (f : Profile) (stored : Bool) (y x : Cabinet) → x .power ≡ y .power → x .marked ≡ y .marked → lapsedIn f stored x ≡ lapsedIn f stored y
-lapsed-by Forgetful stored y x p m = rw p
-lapsed-by Store stored y x p m = rw m
+lapsed-by : (f : Profile) (stored : Bool) (y x : Cabinet) → x .power ≡ y .power → x .marked ≡ y .marked
+    → lapsedIn f stored x ≡ lapsedIn f stored y
+lapsed-by Profile.Forgetful stored y x p m = rw p
+lapsed-by Profile.Store stored y x p m = rw m
 
 weak-by : (f : Profile) (stored : Bool) (y x : Cabinet) → x .marked ≡ y .marked → weakIn f stored x ≡ weakIn f stored y
-weak-by Forgetful stored y x m = refl
-weak-by Store stored y x m = rw m
+weak-by Profile.Forgetful stored y x m = refl
+weak-by Profile.Store stored y x m = rw m
 
-module _ (f : Profile) (stored : Bool) (e : Entry) (y : Cabinet) (full : length (y .versions) ≡ 8) where
+module _ (f : Profile) (stored : Bool) (e : Entry) (y : Cabinet) (full : length (y .versions) ≡ mostVersions) where
   fit-taken : presentOf y .stamp ⊏ e .stamp → Fit f stored (λ d. d ≡ e) y (taken stored e y)
   fit-taken h =
       let s = taken-same stored e y in
@@ -81,35 +80,35 @@ module _ (f : Profile) (stored : Bool) (e : Entry) (y : Cabinet) (full : length 
 -- ---- stop, restart, rollback: nothing new is held
 
 pub fit-stopped : (f : Profile) (stored : Bool) (y : Cabinet) → Fit f stored (λ d. ⊥) y (stopped y)
-fit-stopped Forgetful stored y = record { up = inr refl; lapsed-on = λ h. refl; weak-on = λ h. h; from = λ i. inl (i, refl) }
-fit-stopped Store stored y = record { up = inl (⊑-refl (presentOf y .stamp)); lapsed-on = λ h. h; weak-on = λ h. h; from = λ i. inl (i, refl) }
+fit-stopped Profile.Forgetful stored y = record { up = inr refl; lapsed-on = λ h. refl; weak-on = λ h. h; from = λ i. inl (i, refl) }
+fit-stopped Profile.Store stored y = record { up = inl (⊑-refl (presentOf y .stamp)); lapsed-on = λ h. h; weak-on = λ h. h; from = λ i. inl (i, refl) }
 
 -- forgetful, it ends up stale; with a store it keeps what it held; without one it was lapsed before
-pub fit-restarted : (f : Profile) (stored : Bool) (y : Cabinet) → (f ≡ Forgetful → stored ≡ false)
+pub fit-restarted : (f : Profile) (stored : Bool) (y : Cabinet) → (f ≡ Profile.Forgetful → stored ≡ false)
     → Fit f stored (λ d. ⊥) y (restarted stored (isForgetful f) y)
 unfolding restarted
-fit-restarted Forgetful true y q = absurd (true≢false (q refl))
-fit-restarted Forgetful false y q =
-    record { up = inr refl; lapsed-on = λ h. refl; weak-on = λ h. h; from = λ i. inr (inr (getD-filled [] 8 i factoryEntry)) }
-fit-restarted Store true y q =
+fit-restarted Profile.Forgetful true y q = absurd (true≢false (q refl))
+fit-restarted Profile.Forgetful false y q =
+    record { up = inr refl; lapsed-on = λ h. refl; weak-on = λ h. h; from = λ i. inr (inr (getD-filled [] mostVersions i factoryEntry)) }
+fit-restarted Profile.Store true y q =
     record { up = inl (⊑-refl (presentOf y .stamp)); lapsed-on = λ h. h; weak-on = λ h. h; from = λ i. inl (i, refl) }
-fit-restarted Store false y q =
-    record { up = inr refl; lapsed-on = λ h. refl; weak-on = λ h. refl; from = λ i. inr (inr (getD-filled [] 8 i factoryEntry)) }
+fit-restarted Profile.Store false y q =
+    record { up = inr refl; lapsed-on = λ h. refl; weak-on = λ h. refl; from = λ i. inr (inr (getD-filled [] mostVersions i factoryEntry)) }
 
 -- marked for good, where there is a store; without one nothing happens
-pub fit-rolled : (f : Profile) (stored : Bool) (j : ℕ) (y : Cabinet) → (f ≡ Forgetful → stored ≡ false)
+pub fit-rolled : (f : Profile) (stored : Bool) (j : ℕ) (y : Cabinet) → (f ≡ Profile.Forgetful → stored ≡ false)
     → Fit f stored (λ d. ⊥) y (rolledBack stored j y)
 unfolding rolledBack
-fit-rolled Forgetful true j y q = absurd (true≢false (q refl))
+fit-rolled Profile.Forgetful true j y q = absurd (true≢false (q refl))
 fit-rolled f false j y q = fit-same f false (λ d. ⊥) y
-fit-rolled Store true j y q = go (keepsOlder true (y .kept) j)
+fit-rolled Profile.Store true j y q = go (keepsOlder true (y .kept) j)
   where
-    go : (t : Bool) → Fit Store true (λ d. ⊥) y (cond t (olderBy j y) y)
-    go false = fit-same Store true (λ d. ⊥) y
+    go : (t : Bool) → Fit Profile.Store true (λ d. ⊥) y (cond t (olderBy j y) y)
+    go false = fit-same Profile.Store true (λ d. ⊥) y
     go true =
         record {
           up = inr refl;
           lapsed-on = λ h. refl;
           weak-on = λ h. refl;
-          from = λ i. inl (j + i, sym (getD-filled (drop j (y .versions)) (min j 8) i factoryEntry ∙ getD-drop j (y .versions) i factoryEntry));
+          from = λ i. inl (j + i, sym (getD-filled (drop j (y .versions)) (min j mostVersions) i factoryEntry ∙ getD-drop j (y .versions) i factoryEntry));
         }

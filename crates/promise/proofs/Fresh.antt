@@ -4,21 +4,18 @@ use mathlib.Core.Path.{_≡_, refl, ap, sym, subst, _∙_}
 use mathlib.Core.List.{[]}
 use mathlib.Core.Logic.{_⊎_, inl, inr, ⊎-elim}
 use lib.ListN.{getD, replicate}
-use Rattle.plan.specs.declared.Plan.{Plan}
-use Rattle.cabinet.specs.declared.entry.Entry.{Entry}
-use Rattle.cabinet.specs.declared.record.Cabinet.{Cabinet}
+use Rattle.limits.specs.Limits.{mostCabinets, mostClients, mostSlots, mostVersions}
+use Rattle.promise.specs.Names.{Cabinet, Entry, Plan, Run, Slot}
 use Rattle.cabinet.specs.Cabinets.{freshCabinet}
 use Rattle.cabinet.specs.Entries.{factoryEntry}
 use Rattle.cabinet.proofs.ListLaws.{getD-filled}
-use Rattle.parts.specs.declared.message.Slot.{Slot}
-use Rattle.parts.specs.Parts.{emptySlot, freshClient, noCabinet}
-use Rattle.run.specs.declared.Run.{Run}
+use Rattle.types.specs.Parts.{emptySlot, freshClient, noCabinet}
 use Rattle.run.specs.Start.{freshRun}
 use Rattle.run.specs.Steps.{clientAt, slotAt, cabinetAt}
-use Rattle.promise.proofs.View.{Body, offer, entryIs, ack}
-use Rattle.promise.proofs.Base.{Base}
+use Rattle.promise.proofs.View.{Talk, offer, entryIs, ack}
+use Rattle.promise.proofs.Acknowledged.{Acknowledged}
 use Rattle.promise.proofs.Known.{Known}
-use Rattle.promise.proofs.SimView.{Carries, seen, view, seen-client}
+use Rattle.promise.proofs.SimView.{Carries, seatOf, view, seat-seen}
 
 -- a place of an array that is filled with one value, or a place past its end
 filled : {A : Type 0} (n : ℕ) (a d : A) (i : ℕ) → (getD (replicate n a) i d ≡ a) ⊎ (getD (replicate n a) i d ≡ d)
@@ -30,28 +27,28 @@ module _ (p : Plan) where
   abbrev run : Run
   run = freshRun p
 
-  no-message : (c n q : ℕ) (b : Body) → view run .air c n q b → ⊥
+  no-message : (c n q : ℕ) (b : Talk) → view run .air c n q b → ⊥
   unfolding view slotAt freshRun
-  no-message c n q b h = subst (λ (t : Slot). Carries c n q b (t .held)) (getD-filled [] 64 (h .0) emptySlot) (h .1)
+  no-message c n q b h = subst (λ (t : Slot). Carries c n q b (t .held)) (getD-filled [] mostSlots (h .0) emptySlot) (h .1)
 
   all-fresh : (c : ℕ) → clientAt run c ≡ freshClient
   unfolding clientAt freshRun
-  all-fresh c = getD-filled [] 8 c freshClient
+  all-fresh c = getD-filled [] mostClients c freshClient
 
-  no-operation : (c : ℕ) → view run .client c ≡ seen freshClient
-  no-operation c = seen-client run c ∙ ap seen (all-fresh c)
+  no-operation : (c : ℕ) → view run .client c ≡ seatOf freshClient
+  no-operation c = seat-seen run c ∙ ap seatOf (all-fresh c)
 
   -- every version of every place is the factory's
   all-factory : (q : ℕ) (e : Entry) → view run .holds q e → e ≡ factoryEntry
   unfolding view cabinetAt freshRun
   all-factory q e h =
-      sym (h .1) ∙ ⊎-elim (λ i. ap (λ (k : Cabinet). getD (k .versions) (h .0) factoryEntry) i ∙ getD-filled [] 8 (h .0) factoryEntry)
-      (λ i. ap (λ (k : Cabinet). getD (k .versions) (h .0) factoryEntry) i) (filled 9 freshCabinet noCabinet q)
+      sym (h .1) ∙ ⊎-elim (λ i. ap (λ (k : Cabinet). getD (k .versions) (h .0) factoryEntry) i ∙ getD-filled [] mostVersions (h .0) factoryEntry)
+      (λ i. ap (λ (k : Cabinet). getD (k .versions) (h .0) factoryEntry) i) (filled mostCabinets freshCabinet noCabinet q)
 
-  pub fresh-base : Base (view run)
-  fresh-base =
+  pub fresh-acknowledged : Acknowledged (view run)
+  fresh-acknowledged =
       record {
-        fresh = λ c n q b h. absurd (no-message c n q b h);
+        numbers = λ c n q b h. absurd (no-message c n q b h);
         offers = λ c n q e h. absurd (no-message c n q (offer e) h);
         acks = λ c n q h. absurd (no-message c n q ack h);
         heard = λ c. rw (no-operation c) tt;
@@ -63,5 +60,5 @@ module _ (p : Plan) where
         held = all-factory;
         offered = λ c n q e h. absurd (no-message c n q (offer e) h);
         told = λ c n q e x h. absurd (no-message c n q (entryIs e x) h);
-        ops = λ c. rw (no-operation c) tt;
+        clients = λ c. rw (no-operation c) tt;
       }

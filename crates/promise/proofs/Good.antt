@@ -6,37 +6,34 @@ use mathlib.Core.List.{List, [], _∷_}
 use native.Mathlib.Omega.{arith}
 use lib.ListN.{getD, length}
 use borrow.Author.Tests.{le-ltb}
-use Rattle.plan.specs.declared.Plan.{Plan}
-use Rattle.plan.specs.declared.Planned.the-variants.{Accepted}
-use Rattle.plan.specs.declared.Profile.{Profile}
-use Rattle.plan.specs.declared.Profile.the-variants.{Forgetful, Store}
+use Rattle.limits.specs.Limits.{mostCabinets}
+use Rattle.promise.specs.Names.{Cabinet, Plan, Planned, Profile, Run, Step}
 use Rattle.plan.specs.Rule.{planOf}
 use Rattle.plan.proofs.RuleLaws.{forgetful-meet, forgetful-stores, store-meet}
 use Rattle.plan.proofs.RuledLaws.{ruled-accepted}
-use Rattle.cabinet.specs.declared.record.Cabinet.{Cabinet}
 use Rattle.heard.specs.Heard.{howMany}
-use Rattle.parts.specs.declared.step.Step.{Step}
-use Rattle.parts.specs.Parts.{noCabinet, storedIn}
-use Rattle.run.specs.declared.Run.{Run}
+use Rattle.types.specs.Parts.{noCabinet, storedIn}
 use Rattle.run.specs.Start.{freshRun}
 use Rattle.run.specs.Steps.{cabinetAt, stepOf}
 use Rattle.run.proofs.FitLaws.{cabinets-range}
-use Rattle.run.proofs.MarkedLaws.{markedIn, step-marked}
+use Rattle.promise.proofs.MarkedLaws.{markedIn, step-marked}
 use Rattle.run.proofs.ShapeLaws.{fresh-shaped}
 use Rattle.run.proofs.SoundLaws.{undamaged-says}
 use Rattle.run.proofs.UndamagedLaws.{Whole, step-whole, fresh-undamaged}
 use Rattle.promise.proofs.Count.{many-none, many-or, many-past, many-more, many-front}
 use Rattle.promise.proofs.SimView.{weakIn, view}
 
--- undamaged, its arrays of their lengths, and at most r cabinets marked
+-- the numbers I16 and I17 are those of docs/PROMISE.md
 pub record Good (run : Run) : Type 0 where
+  -- I16: the run is undamaged, and its arrays have their lengths
   pub whole : Whole run
+  -- I17: at most r cabinets are marked
   pub few : markedIn (run .cabinets) ≤ run .plan .r
 
 pub good-step : (run : Run) (s : Step) → Good run → Good (stepOf run s .run)
 good-step run s G = record { whole = step-whole run s (G .whole); few = step-marked run s (G .few) }
 
-pub good-fresh : (n k r b : ℕ) (p : Plan) → planOf n k r b ≡ Accepted p → Good (freshRun p)
+pub good-fresh : (n k r b : ℕ) (p : Plan) → planOf n k r b ≡ Planned.Accepted p → Good (freshRun p)
 unfolding freshRun markedIn
 good-fresh n k r b p e = record { whole = record { shaped = fresh-shaped p; sound = fresh-undamaged n k r b p e }; few = omega arith }
 
@@ -48,20 +45,20 @@ marked-many (k ∷ l) =
     ap (λ (m : ℕ). cond (k .marked) 1 0 + m) (marked-many l) ∙ sym (many-front (length l) (λ q. getD (k ∷ l) q noCabinet .marked))
 
 module _ {run : Run} (G : Good run) where
-  pub most : run .plan .n ≤ 9
+  pub most : run .plan .n ≤ mostCabinets
   most = cabinets-range run (G .whole .sound) .1
 
-  accepted : planOf (run .plan .n) (run .plan .k) (run .plan .r) (run .plan .b) ≡ Accepted (run .plan)
+  accepted : planOf (run .plan .n) (run .plan .k) (run .plan .r) (run .plan .b) ≡ Planned.Accepted (run .plan)
   accepted = ruled-accepted (run .plan) (undamaged-says run (G .whole .sound) .ruled)
 
   -- a forgetful line has no store
-  pub no-store : run .plan .profile ≡ Forgetful → (q : ℕ) → storedIn (run .plan) q ≡ false
+  pub no-store : run .plan .profile ≡ Profile.Forgetful → (q : ℕ) → storedIn (run .plan) q ≡ false
   no-store e q = let p = run .plan in le-ltb q (p .stores) (omega (arith, forgetful-stores (p .n) (p .k) (p .r) (p .b) p accepted e))
 
-  marks : howMany 9 (λ q. cabinetAt run q .marked) ≤ run .plan .r
+  marks : howMany mostCabinets (λ q. cabinetAt run q .marked) ≤ run .plan .r
   unfolding cabinetAt
   marks =
-      let there : markedIn (run .cabinets) ≡ howMany 9 (λ q. getD (run .cabinets) q noCabinet .marked) =
+      let there : markedIn (run .cabinets) ≡ howMany mostCabinets (λ q. getD (run .cabinets) q noCabinet .marked) =
       marked-many (run .cabinets) ∙ ap (λ (n : ℕ). howMany n (λ q. getD (run .cabinets) q noCabinet .marked)) (G .whole .shaped .cabinets) in
       omega (arith, G .few, there)
 
@@ -71,16 +68,17 @@ module _ {run : Run} (G : Good run) where
   outnumbers = go (run .plan .profile) refl
     where
       go : (f : Profile) → run .plan .profile ≡ f
-          → run .plan .n + howMany (run .plan .n) (λ q. weakIn f (storedIn (run .plan) q) (cabinetAt run q)) < run .plan .write + run .plan .read
-      go Forgetful e =
+          → run .plan .n + howMany (run .plan .n) (λ q. weakIn f (storedIn (run .plan) q) (cabinetAt run q)) < run .plan .write + run .plan
+          .read
+      go Profile.Forgetful e =
           let p = run .plan in omega (arith, many-none (p .n), forgetful-meet (p .n) (p .k) (p .r) (p .b) p accepted e)
-      go Store e =
+      go Profile.Store e =
           let p = run .plan in
           omega (
             arith,
             store-meet (p .n) (p .k) (p .r) (p .b) p accepted e,
             many-past (p .n) (p .stores),
             many-or (p .n) (λ q. not (storedIn p q)) (λ q. cabinetAt run q .marked),
-            many-more (p .n) 9 (λ q. cabinetAt run q .marked) most,
+            many-more (p .n) mostCabinets (λ q. cabinetAt run q .marked) most,
             marks,
           )

@@ -6,19 +6,14 @@ use mathlib.Core.Bool.{true}
 use mathlib.Core.List.{List}
 use lib.ListN.{getD}
 use Rattle.cabinet.specs.Entries.{factoryEntry}
-use Rattle.parts.specs.declared.answer.Answer.the-variants.{Refused, Accepted}
-use Rattle.parts.specs.declared.answer.Outcome.{Outcome}
-use Rattle.parts.specs.declared.answer.Refusal.{Refusal}
-use Rattle.parts.specs.declared.step.Step.{Step}
-use Rattle.decide.specs.Decide.{slotCounter}
-use Rattle.run.specs.declared.Run.{Run}
+use Rattle.promise.specs.Names.{Answer, Outcome, Refusal, Run, Step}
 use Rattle.run.specs.Lists.{runAll}
 use Rattle.run.specs.Start.{startOf}
 use Rattle.run.specs.Steps.{clientAt, slotAt, cabinetAt, stepOf}
 use Rattle.run.specs.Undamaged.{undamaged}
-use Rattle.run.proofs.CounterLaws.{heldOperation, client-operation, client-counter, message-operation, message-counter, version-counter}
+use Rattle.promise.proofs.CounterLaws.{heldOperation, heldCounter, client-operation, client-counter, message-operation, message-counter, version-counter}
 use Rattle.run.proofs.FrameLaws.{step-refused, step-accepted}
-use Rattle.run.proofs.MarkedLaws.{markedIn, at-most-r}
+use Rattle.promise.proofs.MarkedLaws.{markedIn, at-most-r}
 use Rattle.run.proofs.UndamagedLaws.{reached}
 
 pub record Limits (r : ℕ) (run : Run) : Type 0 where
@@ -27,13 +22,13 @@ pub record Limits (r : ℕ) (run : Run) : Type 0 where
   -- stamps' counters: of every version of every cabinet, of what each client has or offers, of each message
   pub versions : (p i : ℕ) → getD (cabinetAt run p .versions) i factoryEntry .stamp .counter ≤ run .steps
   pub bests : (c : ℕ) → clientAt run c .best .stamp .counter ≤ run .steps
-  pub messages : (j : ℕ) → slotCounter (slotAt run j .held) ≤ run .steps
+  pub messages : (j : ℕ) → heldCounter (slotAt run j .held) ≤ run .steps
   -- operation numbers: of each client, of each message
   pub operations : (c : ℕ) → clientAt run c .operation ≤ run .steps
   pub numbers : (j : ℕ) → heldOperation (slotAt run j .held) ≤ run .steps
   -- an accepted step is counted, a refused one changes nothing
-  pub accepted : (s : Step) (o : Outcome) → stepOf run s .answer ≡ Accepted o → stepOf run s .run .steps ≡ run .steps + 1
-  pub refused : (s : Step) (why : Refusal) → stepOf run s .answer ≡ Refused why → stepOf run s .run ≡ run
+  pub accepted : (s : Step) (o : Outcome) → stepOf run s .answer ≡ Answer.Accepted o → stepOf run s .run .steps ≡ run .steps + 1
+  pub refused : (s : Step) (why : Refusal) → stepOf run s .answer ≡ Answer.Refused why → stepOf run s .run ≡ run
 
 -- whatever numbers were planned with, whatever steps followed
 pub limits : (n k r b : ℕ) (ss : List Step) → Limits r (runAll (startOf n k r b .run) ss)

@@ -1,50 +1,34 @@
--- A reply that reaches its client, as a step of the view. Assumes nothing.
+-- A reply that reaches its client, as a move of the view. Assumes nothing.
 use Prim.Native.Nat.{ℕ, _≤_, _<_}
 use mathlib.Core.Path.{_≡_, refl, ap, sym, _∙_}
 use mathlib.Core.Bool.{Bool, true, false, cond, not, true≢false}
 use native.Mathlib.Omega.{arith}
 use lib.Dec.{eqb, leb}
 use borrow.Author.Tests.{eqb-true, leb-true}
+use Rattle.limits.specs.Limits.{mostClients}
 use Rattle.plan.proofs.RuleLaws.{both}
-use Rattle.cabinet.specs.declared.entry.Entry.{Entry}
-use Rattle.cabinet.specs.declared.entry.Reading.{Reading}
-use Rattle.cabinet.specs.declared.entry.Reading.the-variants.{Unknown}
+use Rattle.promise.specs.Names.{Body, Change, Client, Ending, Entry, Heard, Held, Message, Reading, Run, Step, Told, Work}
 use Rattle.cabinet.specs.Entries.{factoryEntry, readingIn}
-use Rattle.heard.specs.declared.Heard.{Heard}
 use Rattle.heard.specs.Heard.{noneHeard, hasOf, withOf, howMany, countOf, withinOf}
 use Rattle.heard.proofs.HeardLaws.{with-within, count-within-is}
-use Rattle.parts.specs.declared.answer.Change.the-variants.{Hearing}
-use Rattle.parts.specs.declared.answer.Ending.{Ending}
-use Rattle.parts.specs.declared.answer.Ending.the-variants.{Chosen, Found, Written, Read}
-use Rattle.parts.specs.declared.client.Client.{Client}
-use Rattle.parts.specs.declared.client.Work.{Work}
-use Rattle.parts.specs.declared.client.Work.the-variants.{Idle, Gone, FirstWrite, FirstRead, SecondWrite, SecondRead}
-use Rattle.parts.specs.declared.message.Body.{Body as RunBody}
-use Rattle.parts.specs.declared.message.Body.the-variants.{AskStamp, AskEntry, Offer, TellStamp, TellEntry, Acknowledge}
-use Rattle.parts.specs.declared.message.Held.the-variants.{Reply}
-use Rattle.parts.specs.declared.message.Message.{Message}
-use Rattle.parts.specs.declared.step.Step.{Step as Act}
-use Rattle.client.specs.declared.hear.Told.{Told}
-use Rattle.client.specs.declared.hear.Told.the-variants.{Nothing, Wrote, ReadBack}
 use Rattle.client.specs.Begin.{partOf}
 use Rattle.client.specs.Hear.{toldStamp, toldEntry, toldTaken, toldBy, awaits, toldOf, bestOf, chosenBy, discarded, counted, ended, firstWrite, firstRead, second, hearBy, hearsOf}
 use Rattle.guard.specs.Damage.{heardSound, workSound}
 use Rattle.guard.proofs.DamageLaws.{heard-says, client-says}
-use Rattle.run.specs.declared.Run.{Run}
 use Rattle.run.specs.Steps.{clientAt, slotAt, changed}
 use Rattle.run.proofs.SoundLaws.{undamaged-says, sound-client}
 use Rattle.promise.specs.Events.{Kind, write, read, ending, finished}
-use Rattle.promise.proofs.View.{second as secondPart, Body, ack, none, at, tells, Hears, Counts, Meets, hear, choose, find, count, finish}
+use Rattle.promise.proofs.View.{second as secondPart, Talk, ack, none, at, tells, Hears, Counts, Meets, hear, choose, find, count, finish}
 use Rattle.promise.proofs.Count.{meet}
 use Rattle.promise.proofs.Best.{with-plus, not-first, best-topped, best-either, best-kept}
-use Rattle.promise.proofs.SimView.{all, bodyOf, phaseOf, view, WideIn, none-heard, by-hearing, now-hearing}
+use Rattle.promise.proofs.SimView.{all, talkOf, phaseOf, view, QuorumIn, none-heard, by-hearing, now-hearing}
 use Rattle.promise.proofs.SimRequest.{sim-empty}
 use Rattle.promise.proofs.Good.{Good, most, outnumbers}
-use Rattle.promise.proofs.Seen.{Seen, told-ending}
+use Rattle.promise.proofs.Moves.{Moves, ending-event}
 
 -- reply m, in slot j, to a client and from a cabinet that there are
-module _ (run : Run) (G : Good run) (s : Act) (j : ℕ) (m : Message) (at-j : slotAt run j .held ≡ Reply m)
-    (who : m .client < 8) (near : m .cabinet < run .plan .n) where
+module _ (run : Run) (G : Good run) (s : Step) (j : ℕ) (m : Message) (at-j : slotAt run j .held ≡ Held.Reply m)
+    (who : m .client < mostClients) (near : m .cabinet < run .plan .n) where
   abbrev i : ℕ
   i = m .client
 
@@ -56,10 +40,10 @@ module _ (run : Run) (G : Good run) (s : Act) (j : ℕ) (m : Message) (at-j : sl
 
   -- the run in which the client has become this, and the slot is empty
   abbrev becomes : Work → Heard → Entry → Run
-  becomes w h b = changed run (Hearing i (record { operation = x .operation; work = w; heard = h; best = b }) j)
+  becomes w h b = changed run (Change.Hearing i (record { operation = x .operation; work = w; heard = h; best = b }) j)
 
-  discards : Seen run s (discarded j)
-  discards = sim-empty (WideIn (run .plan)) run j
+  discards : Moves run s (discarded j)
+  discards = sim-empty (QuorumIn (run .plan)) run j
 
   -- it is awaited: its operation is the client's, its cabinet is new, and the heard set names cabinets of the line
   module _ (num : x .operation ≡ m .operation) (new : hasOf (x .heard) (m .cabinet) ≡ false)
@@ -75,14 +59,15 @@ module _ (run : Run) (G : Good run) (s : Act) (j : ℕ) (m : Message) (at-j : sl
     now-none : (w : Work) (b : Entry) → view (becomes w noneHeard b) .client i ≡ at (m .operation) (phaseOf w none b)
     now-none w b = now w noneHeard b ∙ ap (λ (H : ℕ → Bool). at (m .operation) (phaseOf w H b)) none-heard
 
-    stays : (w : Work) (b : Entry) → x .work ≡ w → view (becomes (x .work) heard b) .client i ≡ at (m .operation) (phaseOf w (hasOf heard) b)
+    stays : (w : Work) (b : Entry) → x .work ≡ w
+        → view (becomes (x .work) heard b) .client i ≡ at (m .operation) (phaseOf w (hasOf heard) b)
     stays w b e = now (x .work) heard b ∙ ap (λ (z : Work). at (m .operation) (phaseOf z (hasOf heard) b)) e
 
-    says : (b : Body) → bodyOf (m .body) ≡ b → view run .air i (m .operation) (m .cabinet) b
+    says : (b : Talk) → talkOf (m .body) ≡ b → view run .air i (m .operation) (m .cabinet) b
     unfolding view
     says b e = (j, rw at-j (refl, refl, refl, e))
 
-    hears : (k : Kind) (e : Entry) → bodyOf (m .body) ≡ tells k e true
+    hears : (k : Kind) (e : Entry) → talkOf (m .body) ≡ tells k e true
         → Hears (view run) i (m .operation) k (hasOf (x .heard)) all (x .best) (hasOf heard) all (bestOf (countOf heard) (x .best) e)
     hears k e bd =
         record {
@@ -103,14 +88,14 @@ module _ (run : Run) (G : Good run) (s : Act) (j : ℕ) (m : Message) (at-j : sl
     along : countOf heard ≡ howMany (run .plan .n) (hasOf heard)
     along = count-within-is heard (run .plan .n) (most G) (with-within (x .heard) (run .plan .n) (m .cabinet) near within)
 
-    meets : leb (run .plan .read) (countOf heard) ≡ true → Meets (WideIn (run .plan)) (view run) (hasOf heard) all
-    meets e W wide =
+    meets : leb (run .plan .read) (countOf heard) ≡ true → Meets (QuorumIn (run .plan)) (view run) (hasOf heard) all
+    meets e W quorum =
         let enough : run .plan .read ≤ howMany (run .plan .n) (hasOf heard) = omega (arith, leb-true (run .plan .read) (countOf heard) e, along) in
-        let q = meet (run .plan .n) W (hasOf heard) (view run .weak) (omega (arith, wide, outnumbers G)) in
+        let q = meet (run .plan .n) W (hasOf heard) (view run .weak) (omega (arith, quorum, outnumbers G)) in
         (q .0, q .2, q .3, λ a. true≢false (sym (a .1) ∙ q .4))
 
-    sim-stamp : (r : Reading) (e : Entry) → x .work ≡ FirstWrite r → bodyOf (m .body) ≡ tells write e true
-        → Seen run s (firstWrite (run .plan) i j x heard r (bestOf (countOf heard) (x .best) e))
+    sim-stamp : (r : Reading) (e : Entry) → x .work ≡ Work.FirstWrite r → talkOf (m .body) ≡ tells write e true
+        → Moves run s (firstWrite (run .plan) i j x heard r (bestOf (countOf heard) (x .best) e))
     unfolding firstWrite
     sim-stamp r e wk bd = go (leb (run .plan .read) (countOf heard)) refl
       where
@@ -118,19 +103,20 @@ module _ (run : Run) (G : Good run) (s : Act) (j : ℕ) (m : Message) (at-j : sl
         b = bestOf (countOf heard) (x .best) e
 
         go : (t : Bool) → leb (run .plan .read) (countOf heard) ≡ t
-            → Seen run s (cond t (ended i j (x .operation) Chosen (chosenBy i b r) SecondWrite (chosenBy i b r)) (counted i j x heard b))
+            → Moves run s
+            (cond t (ended i j (x .operation) Ending.Chosen (chosenBy i b r) Work.SecondWrite (chosenBy i b r)) (counted i j x heard b))
         go true t =
-            rw (told-ending run j m at-j Chosen (chosenBy i b r)) (by-hearing (WideIn (run .plan)) run i _ j
-            (choose (m .operation) (hasOf (x .heard)) all (hasOf heard) all (x .best) b (chosenBy i b r) (sees (FirstWrite r) wk)
+            rw (ending-event run j m at-j Ending.Chosen (chosenBy i b r)) (by-hearing (QuorumIn (run .plan)) run i _ j
+            (choose (m .operation) (hasOf (x .heard)) all (hasOf heard) all (x .best) b (chosenBy i b r) (sees (Work.FirstWrite r) wk)
             (hears write e bd) (meets t) refl
-            (now-none SecondWrite (chosenBy i b r))))
+            (now-none Work.SecondWrite (chosenBy i b r))))
         go false t =
-            by-hearing (WideIn (run .plan)) run i _ j
-            (hear (m .operation) write (hasOf (x .heard)) all (hasOf heard) all (x .best) b (sees (FirstWrite r) wk) (hears write e bd)
-            (stays (FirstWrite r) b wk))
+            by-hearing (QuorumIn (run .plan)) run i _ j
+            (hear (m .operation) write (hasOf (x .heard)) all (hasOf heard) all (x .best) b (sees (Work.FirstWrite r) wk) (hears write e bd)
+            (stays (Work.FirstWrite r) b wk))
 
-    sim-entry : (e : Entry) → x .work ≡ FirstRead → bodyOf (m .body) ≡ tells read e true
-        → Seen run s (firstRead (run .plan) i j x heard (bestOf (countOf heard) (x .best) e))
+    sim-entry : (e : Entry) → x .work ≡ Work.FirstRead → talkOf (m .body) ≡ tells read e true
+        → Moves run s (firstRead (run .plan) i j x heard (bestOf (countOf heard) (x .best) e))
     unfolding firstRead
     sim-entry e wk bd = go (leb (run .plan .read) (countOf heard)) refl
       where
@@ -138,20 +124,20 @@ module _ (run : Run) (G : Good run) (s : Act) (j : ℕ) (m : Message) (at-j : sl
         b = bestOf (countOf heard) (x .best) e
 
         go : (t : Bool) → leb (run .plan .read) (countOf heard) ≡ t
-            → Seen run s (cond t (ended i j (x .operation) Found b SecondRead b) (counted i j x heard b))
+            → Moves run s (cond t (ended i j (x .operation) Ending.Found b Work.SecondRead b) (counted i j x heard b))
         go true t =
-            rw (told-ending run j m at-j Found b) (by-hearing (WideIn (run .plan)) run i _ j
-            (find (m .operation) (hasOf (x .heard)) all (hasOf heard) all (x .best) b (sees FirstRead wk) (hears read e bd) (meets t)
-            (now-none SecondRead b)))
+            rw (ending-event run j m at-j Ending.Found b) (by-hearing (QuorumIn (run .plan)) run i _ j
+            (find (m .operation) (hasOf (x .heard)) all (hasOf heard) all (x .best) b (sees Work.FirstRead wk) (hears read e bd) (meets t)
+            (now-none Work.SecondRead b)))
         go false t =
-            by-hearing (WideIn (run .plan)) run i _ j
-            (hear (m .operation) read (hasOf (x .heard)) all (hasOf heard) all (x .best) b (sees FirstRead wk) (hears read e bd)
-            (stays FirstRead b wk))
+            by-hearing (QuorumIn (run .plan)) run i _ j
+            (hear (m .operation) read (hasOf (x .heard)) all (hasOf heard) all (x .best) b (sees Work.FirstRead wk) (hears read e bd)
+            (stays Work.FirstRead b wk))
 
     -- an acknowledgement, in a second part of either kind
     sim-ack : (k : Kind) (w : Work) (how : Ending) → x .work ≡ w → ((H : ℕ → Bool) → phaseOf w H (x .best) ≡ secondPart k H (x .best))
-        → ending how m (x .best) ≡ finished i (m .operation) k (x .best) → bodyOf (m .body) ≡ ack
-        → Seen run s (second (run .plan) i j x heard how)
+        → ending how m (x .best) ≡ finished i (m .operation) k (x .best) → talkOf (m .body) ≡ ack
+        → Moves run s (second (run .plan) i j x heard how)
     unfolding second
     sim-ack k w how wk ph ev bd = go (leb (run .plan .write) (countOf heard)) refl
       where
@@ -162,59 +148,61 @@ module _ (run : Run) (G : Good run) (s : Act) (j : ℕ) (m : Message) (at-j : sl
         before = sees w wk ∙ ap (at (m .operation)) (ph (hasOf (x .heard)))
 
         go : (t : Bool) → leb (run .plan .write) (countOf heard) ≡ t
-            → Seen run s (cond t (ended i j (x .operation) how (x .best) Idle factoryEntry) (counted i j x heard (x .best)))
+            → Moves run s (cond t (ended i j (x .operation) how (x .best) Work.Idle factoryEntry) (counted i j x heard (x .best)))
         go true t =
-            rw (told-ending run j m at-j how (x .best), ev) (by-hearing (WideIn (run .plan)) run i _ j
+            rw (ending-event run j m at-j how (x .best), ev) (by-hearing (QuorumIn (run .plan)) run i _ j
             (finish (m .operation) k (hasOf (x .heard)) (hasOf heard) (x .best) before counts
-            (omega (arith, leb-true (run .plan .write) (countOf heard) t, along)) (now Idle noneHeard factoryEntry)))
+            (omega (arith, leb-true (run .plan .write) (countOf heard) t, along)) (now Work.Idle noneHeard factoryEntry)))
         go false t =
-            by-hearing (WideIn (run .plan)) run i _ j
+            by-hearing (QuorumIn (run .plan)) run i _ j
             (count (m .operation) k (hasOf (x .heard)) (hasOf heard) (x .best) before counts
             (stays w (x .best) wk ∙ ap (at (m .operation)) (ph (hasOf heard))))
 
     -- ---- which reply each part awaits
 
-    to-write : (r : Reading) (b : RunBody) → x .work ≡ FirstWrite r → m .body ≡ b → Seen run s (hearBy (toldStamp r b) (run .plan) i j x heard)
-    to-write r AskStamp wk bd = discards
-    to-write r AskEntry wk bd = discards
-    to-write r (Offer e) wk bd = discards
-    to-write r (TellStamp t) wk bd = sim-stamp r (record { stamp = t; reading = Unknown }) wk (ap bodyOf bd)
-    to-write r (TellEntry e) wk bd = discards
-    to-write r Acknowledge wk bd = discards
+    to-write : (r : Reading) (b : Body) → x .work ≡ Work.FirstWrite r → m .body ≡ b
+        → Moves run s (hearBy (toldStamp r b) (run .plan) i j x heard)
+    to-write r Body.AskStamp wk bd = discards
+    to-write r Body.AskEntry wk bd = discards
+    to-write r (Body.Offer e) wk bd = discards
+    to-write r (Body.TellStamp t) wk bd = sim-stamp r (record { stamp = t; reading = Reading.Unknown }) wk (ap talkOf bd)
+    to-write r (Body.TellEntry e) wk bd = discards
+    to-write r Body.Acknowledge wk bd = discards
 
-    to-read : (b : RunBody) → x .work ≡ FirstRead → m .body ≡ b → Seen run s (hearBy (toldEntry b) (run .plan) i j x heard)
-    to-read AskStamp wk bd = discards
-    to-read AskEntry wk bd = discards
-    to-read (Offer e) wk bd = discards
-    to-read (TellStamp t) wk bd = discards
-    to-read (TellEntry e) wk bd = sim-entry e wk (ap bodyOf bd)
-    to-read Acknowledge wk bd = discards
+    to-read : (b : Body) → x .work ≡ Work.FirstRead → m .body ≡ b → Moves run s (hearBy (toldEntry b) (run .plan) i j x heard)
+    to-read Body.AskStamp wk bd = discards
+    to-read Body.AskEntry wk bd = discards
+    to-read (Body.Offer e) wk bd = discards
+    to-read (Body.TellStamp t) wk bd = discards
+    to-read (Body.TellEntry e) wk bd = sim-entry e wk (ap talkOf bd)
+    to-read Body.Acknowledge wk bd = discards
 
-    to-second : (t : Told) (b : RunBody) → m .body ≡ b → (bodyOf (m .body) ≡ ack → Seen run s (hearBy t (run .plan) i j x heard))
-        → Seen run s (hearBy (toldTaken t b) (run .plan) i j x heard)
-    to-second t AskStamp bd h = discards
-    to-second t AskEntry bd h = discards
-    to-second t (Offer e) bd h = discards
-    to-second t (TellStamp u) bd h = discards
-    to-second t (TellEntry e) bd h = discards
-    to-second t Acknowledge bd h = h (ap bodyOf bd)
+    to-second : (t : Told) (b : Body) → m .body ≡ b → (talkOf (m .body) ≡ ack → Moves run s (hearBy t (run .plan) i j x heard))
+        → Moves run s (hearBy (toldTaken t b) (run .plan) i j x heard)
+    to-second t Body.AskStamp bd h = discards
+    to-second t Body.AskEntry bd h = discards
+    to-second t (Body.Offer e) bd h = discards
+    to-second t (Body.TellStamp u) bd h = discards
+    to-second t (Body.TellEntry e) bd h = discards
+    to-second t Body.Acknowledge bd h = h (ap talkOf bd)
 
   -- the damage check: an open part's heard set names cabinets of the line
   within : (quorum : ℕ) → heardSound (run .plan .n) quorum (x .heard) ≡ true → withinOf (x .heard) (run .plan .n) ≡ true
   within quorum h = heard-says (run .plan .n) quorum (x .heard) h .0
 
-  to-work : (w : Work) → x .work ≡ w → x .operation ≡ m .operation → hasOf (x .heard) (m .cabinet) ≡ false → workSound (run .plan) (x .heard) w ≡ true
-      → Seen run s (hearBy (toldBy w (m .body)) (run .plan) i j x heard)
-  to-work Idle wk num new h = discards
-  to-work Gone wk num new h = discards
-  to-work (FirstWrite r) wk num new h = to-write num new (within (run .plan .read) (both (readingIn r) _ h .1)) r (m .body) wk refl
-  to-work FirstRead wk num new h = to-read num new (within (run .plan .read) h) (m .body) wk refl
-  to-work SecondWrite wk num new h =
+  to-work : (w : Work) → x .work ≡ w → x .operation ≡ m .operation → hasOf (x .heard) (m .cabinet) ≡ false
+      → workSound (run .plan) (x .heard) w ≡ true
+      → Moves run s (hearBy (toldBy w (m .body)) (run .plan) i j x heard)
+  to-work Work.Idle wk num new h = discards
+  to-work Work.Gone wk num new h = discards
+  to-work (Work.FirstWrite r) wk num new h = to-write num new (within (run .plan .read) (both (readingIn r) _ h .1)) r (m .body) wk refl
+  to-work Work.FirstRead wk num new h = to-read num new (within (run .plan .read) h) (m .body) wk refl
+  to-work Work.SecondWrite wk num new h =
       let w = within (run .plan .write) h in
-      to-second num new w Wrote (m .body) refl (sim-ack num new w write SecondWrite Written wk (λ H. refl) refl)
-  to-work SecondRead wk num new h =
+      to-second num new w Told.Wrote (m .body) refl (sim-ack num new w write Work.SecondWrite Ending.Written wk (λ H. refl) refl)
+  to-work Work.SecondRead wk num new h =
       let w = within (run .plan .write) h in
-      to-second num new w ReadBack (m .body) refl (sim-ack num new w read SecondRead Read wk (λ H. refl) refl)
+      to-second num new w Told.ReadBack (m .body) refl (sim-ack num new w read Work.SecondRead Ending.Read wk (λ H. refl) refl)
 
   not-yet : (b : Bool) → not b ≡ true → b ≡ false
   not-yet true h = absurd (true≢false (sym h))
@@ -223,11 +211,11 @@ module _ (run : Run) (G : Good run) (s : Act) (j : ℕ) (m : Message) (at-j : sl
   open-sound : workSound (run .plan) (x .heard) (x .work) ≡ true
   open-sound = client-says (run .plan) (run .steps) i x (sound-client run (undamaged-says run (G .whole .sound)) i) .2
 
-  pub sim-reply : Seen run s (hearsOf (run .plan) j x m)
+  pub sim-reply : Moves run s (hearsOf (run .plan) j x m)
   unfolding hearsOf toldOf
   sim-reply = go (awaits x m) refl
     where
-      go : (t : Bool) → awaits x m ≡ t → Seen run s (hearBy (cond t (toldBy (x .work) (m .body)) Nothing) (run .plan) i j x heard)
+      go : (t : Bool) → awaits x m ≡ t → Moves run s (hearBy (cond t (toldBy (x .work) (m .body)) Told.Nothing) (run .plan) i j x heard)
       go false e = discards
       go true e =
           let a = both (eqb (x .operation) (m .operation)) _ e in

@@ -2,19 +2,7 @@
 -- Assumes nothing.
 use Prim.Native.Nat.{ℕ, _-_}
 use mathlib.Core.List.{List, [], _∷_}
-use Rattle.cabinet.specs.declared.entry.Entry.{Entry}
-use Rattle.parts.specs.declared.answer.Answer.{Answer}
-use Rattle.parts.specs.declared.answer.Answer.the-variants.{Refused, Accepted}
-use Rattle.parts.specs.declared.answer.Ending.{Ending}
-use Rattle.parts.specs.declared.answer.Ending.the-variants.{Chosen, Found, Written, Read as ReadBack}
-use Rattle.parts.specs.declared.answer.Outcome.{Outcome}
-use Rattle.parts.specs.declared.answer.Outcome.the-variants.{Begun, Sent, Answered, Unanswered, Discarded, Counted, Ended, Lost, Stopped, Left, Restarted, RolledBack}
-use Rattle.parts.specs.declared.message.Held.{Held}
-use Rattle.parts.specs.declared.message.Held.the-variants.{Empty, Request, Reply}
-use Rattle.parts.specs.declared.message.Message.{Message}
-use Rattle.parts.specs.declared.step.Step.{Step}
-use Rattle.parts.specs.declared.step.Step.the-variants.{Other, Write, Read, Send, Deliver, Lose, Stop, Leave, Restart, Rollback}
-use Rattle.run.specs.declared.Run.{Run}
+use Rattle.promise.specs.Names.{Answer, Ending, Entry, Held, Message, Outcome, Run, Step}
 use Rattle.run.specs.Steps.{stepOf, clientAt, slotAt}
 
 pub data Kind : Type 0 where
@@ -29,50 +17,50 @@ pub data Event : Type 0 where
 
 -- outcome begun: the client that the step names, under the operation number that it has after the step
 abbrev pub beginning : Step → Run → Event
-beginning Other after = nothing
-beginning (Write c r) after = begun (c - 1) (clientAt after (c - 1) .operation) write
-beginning (Read c) after = begun (c - 1) (clientAt after (c - 1) .operation) read
-beginning (Send c k) after = nothing
-beginning (Deliver j) after = nothing
-beginning (Lose j) after = nothing
-beginning (Stop k) after = nothing
-beginning (Leave c) after = nothing
-beginning (Restart k) after = nothing
-beginning (Rollback k j) after = nothing
+beginning Step.Other after = nothing
+beginning (Step.Write c r) after = begun (c - 1) (clientAt after (c - 1) .operation) write
+beginning (Step.Read c) after = begun (c - 1) (clientAt after (c - 1) .operation) read
+beginning (Step.Send c k) after = nothing
+beginning (Step.Deliver j) after = nothing
+beginning (Step.Lose j) after = nothing
+beginning (Step.Stop k) after = nothing
+beginning (Step.Leave c) after = nothing
+beginning (Step.Restart k) after = nothing
+beginning (Step.Rollback k j) after = nothing
 
 -- a part ended: the client and operation number are those of the reply that stood in the slot
 abbrev pub ending : Ending → Message → Entry → Event
-ending Chosen m e = chosen (m .client) (m .operation) e
-ending Found m e = nothing
-ending Written m e = finished (m .client) (m .operation) write e
-ending ReadBack m e = finished (m .client) (m .operation) read e
+ending Ending.Chosen m e = chosen (m .client) (m .operation) e
+ending Ending.Found m e = nothing
+ending Ending.Written m e = finished (m .client) (m .operation) write e
+ending Ending.Read m e = finished (m .client) (m .operation) read e
 
 abbrev pub endingIn : Ending → Held → Entry → Event
-endingIn how Empty e = nothing
-endingIn how (Request m) e = nothing
-endingIn how (Reply m) e = ending how m e
+endingIn how Held.Empty e = nothing
+endingIn how (Held.Request m) e = nothing
+endingIn how (Held.Reply m) e = ending how m e
 
-abbrev pub toldBy : Run → Step → Run → Outcome → Event
-toldBy run s after Begun = beginning s after
-toldBy run s after (Sent j) = nothing
-toldBy run s after (Answered j) = nothing
-toldBy run s after (Unanswered j) = nothing
-toldBy run s after (Discarded j) = nothing
-toldBy run s after (Counted j) = nothing
-toldBy run s after (Ended how j e) = endingIn how (slotAt run (j - 1) .held) e
-toldBy run s after (Lost j) = nothing
-toldBy run s after Stopped = nothing
-toldBy run s after Left = nothing
-toldBy run s after Restarted = nothing
-toldBy run s after RolledBack = nothing
+abbrev pub outcomeEvent : Run → Step → Run → Outcome → Event
+outcomeEvent run s after Outcome.Begun = beginning s after
+outcomeEvent run s after (Outcome.Sent j) = nothing
+outcomeEvent run s after (Outcome.Answered j) = nothing
+outcomeEvent run s after (Outcome.Unanswered j) = nothing
+outcomeEvent run s after (Outcome.Discarded j) = nothing
+outcomeEvent run s after (Outcome.Counted j) = nothing
+outcomeEvent run s after (Outcome.Ended how j e) = endingIn how (slotAt run (j - 1) .held) e
+outcomeEvent run s after (Outcome.Lost j) = nothing
+outcomeEvent run s after Outcome.Stopped = nothing
+outcomeEvent run s after Outcome.Left = nothing
+outcomeEvent run s after Outcome.Restarted = nothing
+outcomeEvent run s after Outcome.RolledBack = nothing
 
-abbrev pub told : Run → Step → Run → Answer → Event
-told run s after (Refused why) = nothing
-told run s after (Accepted o) = toldBy run s after o
+abbrev pub answerEvent : Run → Step → Run → Answer → Event
+answerEvent run s after (Answer.Refused why) = nothing
+answerEvent run s after (Answer.Accepted o) = outcomeEvent run s after o
 
 -- the event of one step, and of each step of a list: event number i is that of step number i
 unfoldable pub event : Run → Step → Event
-event run s = told run s (stepOf run s .run) (stepOf run s .answer)
+event run s = answerEvent run s (stepOf run s .run) (stepOf run s .answer)
 
 abbrev pub events : Run → List Step → List Event
 events run [] = []

@@ -3,12 +3,8 @@
 use Prim.Native.Nat.{ℕ}
 use mathlib.Core.Path.{_≡_, sym, _∙_}
 use mathlib.Core.Bool.{Bool}
-use Rattle.parts.specs.declared.answer.Sight.{Sight}
-use Rattle.run.specs.declared.Started.{Started}
-use Rattle.run.specs.declared.Stepped.{Stepped}
-use Rattle.run.specs.declared.gather.Aim.{Aim}
+use Rattle.run.specs.Names.{Sight, Started, Stepped}
 use Rattle.run.proofs.fresh.start.Reads as start
-use Rattle.run.proofs.gather.aim_of.Reads as aim-of
 use Rattle.run.proofs.gather.is_empty.Reads as is-empty
 use Rattle.run.proofs.gather.others_marked.Reads as others-marked
 use Rattle.run.proofs.gather.sight.Reads as sight
@@ -32,6 +28,3 @@ others-marked-decides κs a x y s s′ p q = p ∙ sym q
 
 pub sight-decides : (κs : _) (a : _) (x y : Sight) (s s′ : _) → sight.Post κs a x s → sight.Post κs a y s′ → x ≡ y
 sight-decides κs a x y s s′ p q = p ∙ sym q
-
-pub aim-of-decides : (κs : _) (a : _) (x y : Aim) (s s′ : _) → aim-of.Post κs a x s → aim-of.Post κs a y s′ → x ≡ y
-aim-of-decides κs a x y s s′ p q = p ∙ sym q

@@ -1,16 +1,15 @@
 -- Laws of the two scans, for a free slot and for marked cabinets: one law for each way that a turn can go. Assumes nothing.
 use Prim.Native.Nat.{ℕ, zero, suc, _+_, _≤_, _<_}
 use mathlib.Core.Path.{_≡_}
-use mathlib.Core.Bool.{Bool, true, false, cond, not, _&&_}
+use mathlib.Core.Bool.{true, false, not, _&&_}
 use mathlib.Core.List.{List, [], _∷_}
 use native.Mathlib.Numerals.{add-one}
 use native.Mathlib.Omega.{arith}
 use lib.Dec.{eqb}
 use lib.ListN.{length, getD, drop, drop-of-length-le}
 use lib.Seq.{drop-cons, drop-nil}
-use Rattle.cabinet.specs.declared.record.Cabinet.{Cabinet}
-use Rattle.parts.specs.declared.message.Slot.{Slot}
-use Rattle.parts.specs.Parts.{emptySlot}
+use Rattle.run.specs.Names.{Cabinet, Slot}
+use Rattle.types.specs.Parts.{emptySlot}
 use Rattle.run.specs.Gather.{isEmpty, firstFrom, othersFrom}
 
 pub first-end : (l : List Slot) (i : ℕ) → length l ≤ i → firstFrom i (drop i l) ≡ i
@@ -30,17 +29,9 @@ next [] i k e = absurd (let z : _≡_ {A = ℕ} 0 1 = cc in omega arith)
 next (t ∷ l) zero k e = rw e
 next (t ∷ l) (suc i) k e = next l i k e
 
-pub first-next : (l : List Slot) (i k : ℕ) → isEmpty (getD l i emptySlot .held) ≡ false → firstFrom k (drop i l) ≡ firstFrom (k + 1) (drop (i + 1) l)
+pub first-next : (l : List Slot) (i k : ℕ) → isEmpty (getD l i emptySlot .held) ≡ false
+    → firstFrom k (drop i l) ≡ firstFrom (k + 1) (drop (i + 1) l)
 first-next l i k e = rw (add-one, add-one) (next l i k e)
-
-pub first-least : (l : List Slot) (k : ℕ) → k ≤ firstFrom k l
-unfolding firstFrom
-first-least [] k = omega arith
-first-least (t ∷ l) k = go (isEmpty (t .held)) (first-least l (suc k))
-  where
-    go : (b : Bool) → suc k ≤ firstFrom (suc k) l → k ≤ cond b k (firstFrom (suc k) l)
-    go true q = omega arith
-    go false q = omega (arith, q)
 
 pub others-end : (p : ℕ) (l : List Cabinet) (i : ℕ) → length l ≤ i → othersFrom p i (drop i l) ≡ 0
 unfolding othersFrom

@@ -3,10 +3,11 @@ use Prim.Native.Nat.{_≤_, _<_}
 use mathlib.Core.Path.{_≡_}
 use mathlib.Core.Bool.{true, false}
 use borrow.Author.Tests.{le-leb, lt-leb}
+use Rattle.limits.specs.Limits.{mostSteps}
 use Rattle.plan.specs.Rule.{isRuled}
 use Rattle.guard.specs.All.{allFrom}
 use Rattle.guard.specs.Damage.{cabinetSound, clientSound, slotSound}
-use Rattle.run.specs.declared.Run.{Run}
+use Rattle.run.specs.Names.{Run}
 use Rattle.run.specs.Undamaged.{restSound, undamaged}
 
 module _ (run : Run) where
@@ -14,16 +15,16 @@ module _ (run : Run) where
   unfolding restSound
   rest-unruled e = rw e
 
-  pub rest-over : isRuled (run .plan) ≡ true → 1000000 < run .steps → false ≡ restSound run
+  pub rest-over : isRuled (run .plan) ≡ true → mostSteps < run .steps → false ≡ restSound run
   unfolding restSound
   rest-over e h = rw (e, lt-leb _ _ h)
 
-  pub rest-clients : isRuled (run .plan) ≡ true → run .steps ≤ 1000000
+  pub rest-clients : isRuled (run .plan) ≡ true → run .steps ≤ mostSteps
       → allFrom (clientSound (run .plan) (run .steps)) 0 (run .clients) ≡ false → false ≡ restSound run
   unfolding restSound
   rest-clients e h f = rw (e, le-leb _ _ h, f)
 
-  pub rest-slots : isRuled (run .plan) ≡ true → run .steps ≤ 1000000
+  pub rest-slots : isRuled (run .plan) ≡ true → run .steps ≤ mostSteps
       → allFrom (clientSound (run .plan) (run .steps)) 0 (run .clients) ≡ true
       → allFrom (slotSound (run .plan .n) (run .steps)) 0 (run .slots) ≡ restSound run
   unfolding restSound

@@ -6,25 +6,24 @@ use native.Mathlib.Omega.{arith}
 use lib.Dec.{leb, ltb}
 use borrow.Author.Tests.{leb-true, le-leb}
 use lib.ListN.{getD}
-use Rattle.plan.specs.declared.Plan.{Plan}
+use Rattle.limits.specs.Limits.{mostSteps}
+use Rattle.run.specs.Names.{Cabinet, Plan, Run}
 use Rattle.plan.specs.Rule.{isRuled}
 use Rattle.plan.proofs.RuleLaws.{both, Quorums, quorums}
 use Rattle.plan.proofs.RuledLaws.{ruled-accepted}
-use Rattle.cabinet.specs.declared.record.Cabinet.{Cabinet}
 use Rattle.cabinet.specs.Cabinets.{presentOf}
 use Rattle.cabinet.specs.Entries.{factoryEntry, isFactory}
-use Rattle.parts.specs.Parts.{freshClient, emptySlot, noCabinet, storedIn}
+use Rattle.types.specs.Parts.{freshClient, emptySlot, noCabinet, storedIn}
 use Rattle.guard.specs.All.{allFrom}
 use Rattle.guard.specs.Damage.{entrySound, versionSound, recordSound, factoryAt, isFresh, cabinetSound, clientSound, slotSound}
 use Rattle.guard.proofs.AllLaws.{all-mono, all-zero-read}
 use Rattle.guard.proofs.DamageLaws.{joined, factory-is, factory-says, factory-made, fresh-says, version-says, version-factory, record-says, client-made}
-use Rattle.run.specs.declared.Run.{Run}
 use Rattle.run.specs.Steps.{clientAt, slotAt, cabinetAt}
 use Rattle.run.specs.Undamaged.{restSound, undamaged}
 
 pub record Sound (run : Run) : Type 0 where
   pub ruled : isRuled (run .plan) ≡ true
-  pub steps : run .steps ≤ 1000000
+  pub steps : run .steps ≤ mostSteps
   pub clients : allFrom (clientSound (run .plan) (run .steps)) 0 (run .clients) ≡ true
   pub slots : allFrom (slotSound (run .plan .n) (run .steps)) 0 (run .slots) ≡ true
   pub cabinets : allFrom (cabinetSound (run .plan) (run .steps)) 0 (run .cabinets) ≡ true
@@ -34,21 +33,23 @@ unfolding undamaged restSound
 undamaged-says run h =
     let a = both (isRuled (run .plan) && _) _ h in
     let b = both (isRuled (run .plan)) _ (a .0) in
-    let c = both (leb (run .steps) 1000000) _ (b .1) in
+    let c = both (leb (run .steps) mostSteps) _ (b .1) in
     let d = both (allFrom (clientSound (run .plan) (run .steps)) 0 (run .clients)) _ (c .1) in
     record { ruled = b .0; steps = leb-true _ _ (c .0); clients = d .0; slots = d .1; cabinets = a .1 }
 
 pub undamaged-made : (run : Run) → Sound run → undamaged run ≡ true
 unfolding undamaged restSound
-undamaged-made run h = joined _ _ (joined _ _ (h .ruled) (joined _ _ (le-leb _ _ (h .steps)) (joined _ _ (h .clients) (h .slots)))) (h .cabinets)
+undamaged-made run h =
+    joined _ _ (joined _ _ (h .ruled) (joined _ _ (le-leb _ _ (h .steps)) (joined _ _ (h .clients) (h .slots)))) (h .cabinets)
 
 -- every version of a cabinet is sound
-pub versions-sound : (plan : Plan) (steps i : ℕ) (k : Cabinet) → cabinetSound plan steps i k ≡ true
+versions-sound : (plan : Plan) (steps i : ℕ) (k : Cabinet) → cabinetSound plan steps i k ≡ true
     → (j : ℕ) → entrySound steps (getD (k .versions) j factoryEntry) ≡ true
 unfolding cabinetSound
 versions-sound plan steps i k = go (ltb i (plan .n))
   where
-    go : (t : Bool) → cond t (recordSound steps (storedIn plan i) k) (isFresh k) ≡ true → (j : ℕ) → entrySound steps (getD (k .versions) j factoryEntry) ≡ true
+    go : (t : Bool) → cond t (recordSound steps (storedIn plan i) k) (isFresh k) ≡ true → (j : ℕ)
+        → entrySound steps (getD (k .versions) j factoryEntry) ≡ true
     go true h j =
         let v = record-says steps (storedIn plan i) k h .1 in
         version-says steps (k .kept) j (getD (k .versions) j factoryEntry)

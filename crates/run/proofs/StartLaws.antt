@@ -1,7 +1,7 @@
 -- Planning a run: what comes back is the run of what was planned. Assumes nothing.
 use Prim.Native.Nat.{ℕ}
 use mathlib.Core.Path.{_≡_, sym, ap, _∙_}
-use Rattle.plan.specs.declared.Planned.{Planned}
+use Rattle.run.specs.Names.{Planned}
 use Rattle.plan.specs.Rule.{planOf}
 use Rattle.run.specs.Start.{startBy, startOf}
 

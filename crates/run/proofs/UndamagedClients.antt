@@ -3,19 +3,14 @@ use Prim.Native.Nat.{ℕ, _+_, _≤_}
 use mathlib.Core.Bool.{true}
 use mathlib.Core.Path.{_≡_, refl}
 use native.Mathlib.Omega.{arith}
-use Rattle.plan.specs.declared.Plan.{Plan}
+use Rattle.run.specs.Names.{Client, Plan, Standing, Work}
 use Rattle.plan.proofs.RuleLaws.{Quorums}
 use Rattle.heard.specs.Heard.{noneHeard}
 use Rattle.heard.proofs.HeardLaws.{none-within, none-count}
-use Rattle.parts.specs.declared.client.Client.{Client}
-use Rattle.parts.specs.declared.client.Work.{Work}
-use Rattle.parts.specs.declared.client.Work.the-variants.{Idle, Gone, FirstWrite, FirstRead, SecondWrite, SecondRead}
-use Rattle.client.specs.declared.begin.Standing.{Standing}
-use Rattle.client.specs.declared.begin.Standing.the-variants.{Free, Away, Busy}
 use Rattle.client.specs.Begin.{standingOf, opened, beginsBy, beginsOf, gone, leavesBy, leavesOf}
 use Rattle.guard.specs.Damage.{heardSound, workSound, clientSound}
 use Rattle.guard.proofs.DamageLaws.{joined, factory-made, heard-made, client-says, client-made}
-use Rattle.decide.proofs.AdmitLaws.{FirstIn}
+use Rattle.admit.proofs.AdmitLaws.{FirstIn}
 use Rattle.run.proofs.UndamagedChanges.{Keeps, refused, of-client}
 
 -- with no cabinet heard no quorum is reached
@@ -25,12 +20,12 @@ none-sound n quorum h = heard-made n quorum noneHeard (none-within n) (rw none-c
 -- ---- begin and leave
 
 opens-sound : (plan : Plan) (w : Work) → Quorums plan → FirstIn w → workSound plan noneHeard w ≡ true
-opens-sound plan Idle q o = refl
-opens-sound plan Gone q o = refl
-opens-sound plan (FirstWrite r) q o = joined _ _ o (none-sound (plan .n) (plan .read) (q .read-some))
-opens-sound plan FirstRead q o = none-sound (plan .n) (plan .read) (q .read-some)
-opens-sound plan SecondWrite q o = absurd o
-opens-sound plan SecondRead q o = absurd o
+opens-sound plan Work.Idle q o = refl
+opens-sound plan Work.Gone q o = refl
+opens-sound plan (Work.FirstWrite r) q o = joined _ _ o (none-sound (plan .n) (plan .read) (q .read-some))
+opens-sound plan Work.FirstRead q o = none-sound (plan .n) (plan .read) (q .read-some)
+opens-sound plan Work.SecondWrite q o = absurd o
+opens-sound plan Work.SecondRead q o = absurd o
 
 module _ (plan : Plan) (steps i : ℕ) (c : Client) (q : Quorums plan) (sound : clientSound plan steps i c ≡ true) where
   pub begins-keeps : (w : Work) → FirstIn w → Keeps plan (steps + 1) (beginsOf i c w)
@@ -38,11 +33,11 @@ module _ (plan : Plan) (steps i : ℕ) (c : Client) (q : Quorums plan) (sound : 
   begins-keeps w o = go (standingOf (c .work))
     where
       go : (g : Standing) → Keeps plan (steps + 1) (beginsBy g i c w)
-      go Free =
+      go Standing.Free =
           let f = client-says plan steps i c sound in
           of-client (client-made plan (steps + 1) i (opened c w) (omega arith) (factory-made (steps + 1)) (opens-sound plan w q o))
-      go Away = refused
-      go Busy = refused
+      go Standing.Away = refused
+      go Standing.Busy = refused
 
   pub leaves-keeps : Keeps plan (steps + 1) (leavesOf i c)
   unfolding leavesOf
@@ -54,6 +49,6 @@ module _ (plan : Plan) (steps i : ℕ) (c : Client) (q : Quorums plan) (sound : 
           client-made plan (steps + 1) i (gone c) (omega arith) (factory-made (steps + 1)) refl
 
       go : (g : Standing) → Keeps plan (steps + 1) (leavesBy g i c)
-      go Free = of-client away
-      go Away = refused
-      go Busy = of-client away
+      go Standing.Free = of-client away
+      go Standing.Away = refused
+      go Standing.Busy = of-client away

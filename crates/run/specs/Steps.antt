@@ -1,30 +1,16 @@
--- One step of a run: gather, decide, put back. `stepOf` is the published static algorithm as document 01 sets it out.
+-- One step of a run: decide, put back. `stepOf` is the published static algorithm as document 01 sets it out.
 use Prim.Native.Nat.{ℕ, _+_}
 use mathlib.Core.Bool.{cond}
 use mathlib.Core.List.{List}
 use lib.ListN.{getD, set}
-use Rattle.plan.specs.declared.Plan.{Plan}
-use Rattle.cabinet.specs.declared.record.Cabinet.{Cabinet}
-use Rattle.parts.specs.declared.answer.Answer.the-variants.{Refused, Accepted}
-use Rattle.parts.specs.declared.answer.Change.{Change}
-use Rattle.parts.specs.declared.answer.Change.the-variants.{OfClient, OfSlot, OfCabinet, Hearing, Offering}
-use Rattle.parts.specs.declared.answer.Decision.{Decision}
-use Rattle.parts.specs.declared.answer.Decision.the-variants.{No, Yes}
-use Rattle.parts.specs.declared.answer.Deed.the-variants.{Weigh}
-use Rattle.parts.specs.declared.answer.Deed.{Deed}
-use Rattle.parts.specs.declared.answer.Refusal.the-variants.{Damaged}
-use Rattle.parts.specs.declared.client.Client.{Client}
-use Rattle.parts.specs.declared.message.Slot.{Slot}
-use Rattle.parts.specs.declared.step.Asked.{Asked}
-use Rattle.parts.specs.declared.step.Step.{Step}
-use Rattle.parts.specs.Parts.{emptySlot, freshClient, noCabinet, sightOf}
-use Rattle.decide.specs.Admit.{admitOf}
-use Rattle.decide.specs.Cabinets.{deedOf}
-use Rattle.decide.specs.Decide.{slotOf, decideWith}
-use Rattle.run.specs.declared.Run.{Run}
-use Rattle.run.specs.declared.Stepped.{Stepped}
-use Rattle.run.specs.declared.gather.Aim.{Aim}
-use Rattle.run.specs.Gather.{freeFor, othersFor, aimOf}
+use Rattle.run.specs.Names.{Answer, Asked, Cabinet, Change, Client, Decision, Deed, Held, Outcome, Plan, Refusal, Run, Slot, Step, Stepped}
+use Rattle.types.specs.Parts.{emptySlot, freshClient, noCabinet, sightOf}
+use Rattle.admit.specs.Admit.{admitOf}
+use Rattle.client.specs.Begin.{beginsOf, sendsOf, leavesOf}
+use Rattle.client.specs.Hear.{hearsOf}
+use Rattle.server.specs.Deeds.{stopsWhen, rollsOf, deedOf}
+use Rattle.server.specs.Requests.{answersOf}
+use Rattle.run.specs.Gather.{firstFrom, othersFrom}
 use Rattle.run.specs.Undamaged.{undamaged}
 
 unfoldable pub clientAt : Run → ℕ → Client
@@ -36,43 +22,61 @@ slotAt run j = getD (run .slots) j emptySlot
 unfoldable pub cabinetAt : Run → ℕ → Cabinet
 cabinetAt run p = getD (run .cabinets) p noCabinet
 
--- ---- gather, decide
+-- ---- decide
 
-unfoldable pub decideAt : Run → Asked → Slot → Aim → Decision
-decideAt run a t at =
-    decideWith (run .plan) a (clientAt run (at .client)) (sightOf (cabinetAt run (at .cabinet))) t (freeFor a (run .slots)) (othersFor a (run .cabinets))
+-- "lose (slot): the slot is emptied"
+abbrev pub losing : ℕ → Decision
+losing j = Decision.Yes (Outcome.Lost (j + 1)) (Change.OfSlot j emptySlot)
 
-unfoldable pub decideIn : Run → Asked → Slot → Decision
-decideIn run a t = decideAt run a t (aimOf a (t .held))
+-- "deliver or lose of an empty slot" is refused
+abbrev pub losesBy : Held → ℕ → Decision
+losesBy Held.Empty j = Decision.No Refusal.NoMessage
+losesBy (Held.Request m) j = losing j
+losesBy (Held.Reply m) j = losing j
 
+-- a request reaches its cabinet, a reply its client
+abbrev pub deliversIn : Run → ℕ → Held → Decision
+deliversIn run j Held.Empty = Decision.No Refusal.NoMessage
+deliversIn run j (Held.Request m) = answersOf j m (sightOf (cabinetAt run (m .cabinet)))
+deliversIn run j (Held.Reply m) = hearsOf (run .plan) j (clientAt run (m .client)) m
+
+-- each kind of step over the parts that it meets
 unfoldable pub decideOf : Run → Asked → Decision
-decideOf run a = decideIn run a (slotAt run (slotOf a))
+decideOf run (Asked.Barred why) = Decision.No why
+decideOf run (Asked.Begins i w) = beginsOf i (clientAt run i) w
+decideOf run (Asked.Leaves i) = leavesOf i (clientAt run i)
+decideOf run (Asked.Sends i p) = sendsOf i p (clientAt run i) (firstFrom 0 (run .slots))
+decideOf run (Asked.Delivers j) = deliversIn run j (slotAt run j .held)
+decideOf run (Asked.Loses j) = losesBy (slotAt run j .held) j
+decideOf run (Asked.Stops p) = stopsWhen (cabinetAt run p .power) p
+decideOf run (Asked.Restarts p) = Decision.Yes Outcome.Restarted (Change.OfCabinet p Deed.ComeUp)
+decideOf run (Asked.RollsBack p j) = rollsOf (run .plan) p j (sightOf (cabinetAt run p)) (othersFrom p 0 (run .cabinets))
 
 -- ---- put back
 
 abbrev pub clientsAfter : List Client → Change → List Client
-clientsAfter l (OfClient i c) = set l i c
-clientsAfter l (OfSlot j t) = l
-clientsAfter l (OfCabinet p d) = l
-clientsAfter l (Hearing i c j) = set l i c
-clientsAfter l (Offering p e j t) = l
+clientsAfter l (Change.OfClient i c) = set l i c
+clientsAfter l (Change.OfSlot j t) = l
+clientsAfter l (Change.OfCabinet p d) = l
+clientsAfter l (Change.Hearing i c j) = set l i c
+clientsAfter l (Change.Offering p e j t) = l
 
 abbrev pub slotsAfter : List Slot → Change → List Slot
-slotsAfter l (OfClient i c) = l
-slotsAfter l (OfSlot j t) = set l j t
-slotsAfter l (OfCabinet p d) = l
-slotsAfter l (Hearing i c j) = set l j emptySlot
-slotsAfter l (Offering p e j t) = set l j t
+slotsAfter l (Change.OfClient i c) = l
+slotsAfter l (Change.OfSlot j t) = set l j t
+slotsAfter l (Change.OfCabinet p d) = l
+slotsAfter l (Change.Hearing i c j) = set l j emptySlot
+slotsAfter l (Change.Offering p e j t) = set l j t
 
 unfoldable pub doneAt : Plan → List Cabinet → ℕ → Deed → List Cabinet
 doneAt plan l p d = set l p (deedOf plan p d (getD l p noCabinet))
 
 abbrev pub cabinetsAfter : Plan → List Cabinet → Change → List Cabinet
-cabinetsAfter plan l (OfClient i c) = l
-cabinetsAfter plan l (OfSlot j t) = l
-cabinetsAfter plan l (OfCabinet p d) = doneAt plan l p d
-cabinetsAfter plan l (Hearing i c j) = l
-cabinetsAfter plan l (Offering p e j t) = doneAt plan l p (Weigh e)
+cabinetsAfter plan l (Change.OfClient i c) = l
+cabinetsAfter plan l (Change.OfSlot j t) = l
+cabinetsAfter plan l (Change.OfCabinet p d) = doneAt plan l p d
+cabinetsAfter plan l (Change.Hearing i c j) = l
+cabinetsAfter plan l (Change.Offering p e j t) = doneAt plan l p (Deed.Weigh e)
 
 -- an accepted step is counted
 unfoldable pub changed : Run → Change → Run
@@ -87,8 +91,8 @@ changed run x =
 
 -- "Every refusal changes nothing"
 abbrev pub putBack : Run → Decision → Stepped
-putBack run (No why) = record { answer = Refused why; run = run }
-putBack run (Yes o x) = record { answer = Accepted o; run = changed run x }
+putBack run (Decision.No why) = record { answer = Answer.Refused why; run = run }
+putBack run (Decision.Yes o x) = record { answer = Answer.Accepted o; run = changed run x }
 
 -- ---- the step
 
@@ -97,4 +101,4 @@ goOf run s = putBack run (decideOf run (admitOf (run .plan .n) (run .steps) s))
 
 -- "the run is damaged" comes first
 unfoldable pub stepOf : Run → Step → Stepped
-stepOf run s = cond (undamaged run) (goOf run s) (record { answer = Refused Damaged; run = run })
+stepOf run s = cond (undamaged run) (goOf run s) (record { answer = Answer.Refused Refusal.Damaged; run = run })

@@ -4,14 +4,17 @@ use super::Started;
 use cabinet::Cabinet;
 use cabinet::Entry;
 use heard::Heard;
-use parts::Client;
-use parts::Held;
-use parts::Slot;
-use parts::Work;
+use limits::MOST_CABINETS;
+use limits::MOST_CLIENTS;
+use limits::MOST_SLOTS;
 use plan::Plan;
 use plan::Planned;
 use plan::Profile;
 use plan::choose;
+use types::Client;
+use types::Held;
+use types::Slot;
+use types::Work;
 ghost use mathlib.Core.Path.{_≡_};
 ghost use Rattle.plan.specs.Rule.{forgetfulPlan};
 ghost use Rattle.run.specs.Start.{freshRun, startOf};
@@ -30,9 +33,9 @@ fn fresh_run(plan: Plan) -> Run
     Run {
         plan: plan,
         steps: 0,
-        cabinets: [k; 9],
-        clients: [c; 8],
-        slots: [t; 64],
+        cabinets: [k; MOST_CABINETS],
+        clients: [c; MOST_CLIENTS],
+        slots: [t; MOST_SLOTS],
     }
 }
 

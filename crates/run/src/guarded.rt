@@ -3,6 +3,7 @@ use super::Run;
 use guard::cabinets_sound;
 use guard::clients_sound;
 use guard::slots_sound;
+use limits::MOST_STEPS;
 ghost use mathlib.Core.Path.{_≡_};
 ghost use Rattle.run.specs.Undamaged.{restSound, undamaged};
 
@@ -14,7 +15,7 @@ pub fn rest_sound(run: Run) -> bool
     let clients = run.clients;
     let slots = run.slots;
     if plan::is_ruled(plan) {
-        if run.steps <= 1000000 {
+        if run.steps <= MOST_STEPS {
             if clients_sound(plan, run.steps, clients) {
                 return slots_sound(plan.n, run.steps, slots);
             }

@@ -6,26 +6,27 @@ mod steps;
 
 use cabinet::Cabinet;
 pub use fresh::start;
-pub use gather::Aim;
-pub use gather::aim_of;
 pub use gather::is_empty;
 pub use gather::others_marked;
 pub use gather::sight;
 pub use guarded::undamaged;
-use parts::Answer;
-use parts::Client;
-use parts::Slot;
+use limits::MOST_CABINETS;
+use limits::MOST_CLIENTS;
+use limits::MOST_SLOTS;
 use plan::Plan;
 use plan::Planned;
 pub use steps::take;
+use types::Answer;
+use types::Client;
+use types::Slot;
 
 // Clients, cabinets and slots count from 0 here; places past n hold fresh cabinets.
 pub struct Run {
     pub plan: Plan,
     pub steps: u32,
-    pub cabinets: [Cabinet; 9],
-    pub clients: [Client; 8],
-    pub slots: [Slot; 64],
+    pub cabinets: [Cabinet; MOST_CABINETS],
+    pub clients: [Client; MOST_CLIENTS],
+    pub slots: [Slot; MOST_SLOTS],
 }
 
 // A run holds arrays, so what comes back with it stands beside it.

@@ -1,11 +1,13 @@
 // The step's speed, for a C program to measure: one list of steps over and over, with the damage check, and the check alone.
 use cabinet::Reading;
-use parts::Step;
-ghost use Prim.Native.Nat.{_≤_};
+use types::Step;
+
+// How many steps one round of the list has.
+pub const ROUND: usize = 24;
 
 // A write by client 1 to three of four cabinets with stores, a stop, a restart, a refused send, a rollback, and a loss that is refused.
-fn list() -> [Step; 24] {
-    let mut l = [Step::Deliver(1); 24];
+fn list() -> [Step; ROUND] {
+    let mut l = [Step::Deliver(1); ROUND];
     l[0] = Step::Write(1, Reading::Open(6));
     l[1] = Step::Send(1, 1);
     l[4] = Step::Send(1, 2);
@@ -29,7 +31,7 @@ pub extern "C" fn speed_take(turns: usize) -> u32 {
     let mut r = started.run;
     let mut i: usize = 0;
     while i < turns {
-        let s = l[i % 24];
+        let s = l[i % ROUND];
         let x = run::take(r, s);
         r = x.run;
         i += 1;
@@ -46,7 +48,7 @@ pub extern "C" fn speed_check(turns: usize) -> usize {
     let mut passed: usize = 0;
     let mut i: usize = 0;
     while i < turns {
-        if i < 24 {
+        if i < ROUND {
             let s = l[i];
             let x = run::take(r, s);
             r = x.run;

@@ -1,15 +1,25 @@
 // The rehearsal of what a descriptor gives, on standard output: read, feed, write, in parts, so that memory does not grow with the input.
 use libc::STDOUT_FILENO;
-use rows::Kept;
-use rows::Phase;
-use rows::feed;
-use rows::finish;
-use rows::fresh;
+use print::ROOM;
 use run::Run;
+use transcript::Kept;
+use transcript::LINE_ROOM;
+use transcript::Phase;
+use transcript::feed;
+use transcript::finish;
+use transcript::fresh;
 ghost use mathlib.Core.Path.{_≡_};
 ghost use Prim.Native.Nat.{_+_, _≤_, _<_, _^_};
 ghost use lib.ListN.{length};
-ghost use Rattle.rows.specs.Machine.{Whole, machOf};
+ghost use Rattle.stream.specs.Buffers.{partRoom, outRoom};
+ghost use Rattle.transcript.specs.Machine.{Whole, machOf};
+
+// What one read takes at most. The run is copied a few times for each part, so that smaller ones cost time; larger ones cost memory.
+pub const PART_ROOM: usize = 32_768;
+// What is said of it: a row for each of its bytes at most, and a row more, as `transcript::feed` asks.
+pub const OUT_ROOM: usize = ROOM * (PART_ROOM + 1);
+// Nothing says that an input ends, so the loop counts its reads down, from a number that no run uses up.
+pub const MOST_READS: u64 = 1_000_000_000_000;
 
 // What is kept, whether there is more to read, and whether the writes went through.
 pub struct Turn {
@@ -29,21 +39,21 @@ fn goes_on(p: Phase) -> bool {
     }
 }
 
-// One read of at most 32,768 bytes, and one write of all that is said of them. A read that fails ends the input; a write that fails ends the program.
+// One read, and one write of all that is said of them. A read that fails ends the input; a write that fails ends the program.
 fn one_turn(
     fd: i32,
     part: &mut [u8],
-    line: &mut [u8; 67],
+    line: &mut [u8; LINE_ROOM],
     out: &mut [u8],
     kept: Kept,
     run: Run,
 ) -> Turn
-    requires { ⌜ length (now part) ≤ 32768 ⌝ }
-    requires { ⌜ length (now out) ≡ 2261061 ⌝ }
+    requires { ⌜ length (now part) ≤ partRoom ⌝ }
+    requires { ⌜ length (now out) ≡ outRoom ⌝ }
     requires { ⌜ kept .at ≡ 0 ⌝ }
-    requires { ⌜ kept .row + 32768 < 2 ^ 64 ⌝ }
+    requires { ⌜ kept .row + partRoom < 2 ^ 64 ⌝ }
     requires { ⌜ Whole (machOf kept (now line) run) ⌝ }
-    ensures { λ r. ⌜ (r .kept .at ≡ 0) × (r .kept .row ≤ kept .row + 32768) ⌝ }
+    ensures { λ r. ⌜ (r .kept .at ≡ 0) × (r .kept .row ≤ kept .row + partRoom) ⌝ }
     ensures { λ r. ⌜ Whole (machOf (r .kept) (now (line .exit)) (r .run)) ⌝ }
 {
     let got = libc::read(fd, part);
@@ -78,10 +88,9 @@ fn one_turn(
     }
 }
 
-// Nothing says that an input ends, so the loop counts its reads down, from a number that no run uses up.
-fn all_turns(fd: i32, part: &mut [u8], line: &mut [u8; 67], out: &mut [u8]) -> Turn
-    requires { ⌜ length (now part) ≤ 32768 ⌝ }
-    requires { ⌜ length (now out) ≡ 2261061 ⌝ }
+fn all_turns(fd: i32, part: &mut [u8], line: &mut [u8; LINE_ROOM], out: &mut [u8]) -> Turn
+    requires { ⌜ length (now part) ≤ partRoom ⌝ }
+    requires { ⌜ length (now out) ≡ outRoom ⌝ }
     ensures { λ r. ⌜ (r .kept .at ≡ 0) × (r .kept .row + 1 < 2 ^ 64) ⌝ }
     ensures { λ r. ⌜ Whole (machOf (r .kept) (now (line .exit)) (r .run)) ⌝ }
 {
@@ -90,7 +99,7 @@ fn all_turns(fd: i32, part: &mut [u8], line: &mut [u8; 67], out: &mut [u8]) -> T
     let mut run = f.run;
     let mut more = true;
     let mut sound = true;
-    let mut left: u64 = 1000000000000;
+    let mut left = MOST_READS;
     while left > 0 && more && sound {
         let t = one_turn(fd, part, line, out, kept, run);
         let k = t.kept;
@@ -110,9 +119,9 @@ fn all_turns(fd: i32, part: &mut [u8], line: &mut [u8; 67], out: &mut [u8]) -> T
 }
 
 // All that a descriptor gives, and its end.
-fn all_bytes(fd: i32, part: &mut [u8], line: &mut [u8; 67], out: &mut [u8])
-    requires { ⌜ length (now part) ≤ 32768 ⌝ }
-    requires { ⌜ length (now out) ≡ 2261061 ⌝ }
+fn all_bytes(fd: i32, part: &mut [u8], line: &mut [u8; LINE_ROOM], out: &mut [u8])
+    requires { ⌜ length (now part) ≤ partRoom ⌝ }
+    requires { ⌜ length (now out) ≡ outRoom ⌝ }
 {
     let t = all_turns(fd, part, line, out);
     if t.sound {
@@ -123,11 +132,10 @@ fn all_bytes(fd: i32, part: &mut [u8], line: &mut [u8; 67], out: &mut [u8])
     }
 }
 
-// The buffers of the rehearsal of a descriptor. What is said has 69 bytes for each byte of a part, and 69 more: see `rows::feed`. They are made apart
-// from their use, since a proof that reads their length must not count them out.
+// The buffers of the rehearsal of a descriptor. They are made apart from their use, since a proof that reads their length must not count them out.
 pub fn rehearse(fd: i32) {
-    let mut part = [0u8; 32768];
-    let mut out = [0u8; 2261061];
-    let mut line = [0u8; 67];
+    let mut part = [0u8; PART_ROOM];
+    let mut out = [0u8; OUT_ROOM];
+    let mut line = [0u8; LINE_ROOM];
     all_bytes(fd, &mut part, &mut line, &mut out);
 }

@@ -8,21 +8,12 @@ use lib.ListN.{length, getD, take, drop, length-append, length-drop, length-take
 use lib.Seq.{take-at, drop-at, drop-drop, getD-append-add}
 use lib.Dec.{eqb, leb}
 use borrow.Author.Tests.{leb-true, eqb-true, ne-eqb}
-use Rattle.parts.specs.declared.step.Step.{Step}
+use Rattle.text.specs.Names.{Ahead, Double, Head, Kind, Number, Pair, Row, Single, Step}
 use Rattle.text.specs.Ends.{breaks, stepIn, Leads}
-use Rattle.text.specs.Fields.{noNum, num, same, split, valueFrom, unpadded, numberOf}
+use Rattle.text.specs.Fields.{noNum, num, same, split, valueFrom, unpadded, numberOf, mostDigits}
 use Rattle.text.specs.Pieces.{begins, first, after, numberAt, pairAt, headIf, headIn}
 use Rattle.text.specs.Rows.{oneStep, twoStep, rowAs, rowOf}
 use Rattle.text.specs.Words.{Named, kinds}
-use Rattle.text.specs.declared.ahead.Ahead.the-variants.{Unclear, Whole}
-use Rattle.text.specs.declared.field.Number.the-variants.{Value}
-use Rattle.text.specs.declared.field.Pair.the-variants.{Values}
-use Rattle.text.specs.declared.row.Row.the-variants.{Step as RowStep}
-use Rattle.text.specs.declared.word.Double.{Double}
-use Rattle.text.specs.declared.word.Head.{Head}
-use Rattle.text.specs.declared.word.Kind.{Kind}
-use Rattle.text.specs.declared.word.Kind.the-variants.{WithOne, WithTwo}
-use Rattle.text.specs.declared.word.Single.{Single}
 use Rattle.text.proofs.BreakLaws.{breaks-append}
 use Rattle.text.proofs.BytesLaws.{begins-is, begins-no, begins-yes}
 use Rattle.text.proofs.EndLaws.{unended-bare}
@@ -50,11 +41,12 @@ value-clean v (b ∷ l) a e = go (leb 48 b) refl (leb b 57) e (value-clean (v * 
     go false p u q f = absurd (let z : _≡_ {A = ℕ} 0 1 = cc in omega arith)
 
 -- a number is at most seven digits, and no digit is an LF
-number-fits : (l : List ℕ) (a : ℕ) → numberOf l ≡ num a → (length l ≤ 7) × (breaks l ≡ 0)
+number-fits : (l : List ℕ) (a : ℕ) → numberOf l ≡ num a → (length l ≤ mostDigits) × (breaks l ≡ 0)
 unfolding numberOf
-number-fits l a e = go (leb (length l) 7) refl (unpadded l) e
+number-fits l a e = go (leb (length l) mostDigits) refl (unpadded l) e
   where
-    go : (t : Bool) → leb (length l) 7 ≡ t → (u : Bool) → cond t (cond u (valueFrom 0 l) noNum) noNum ≡ num a → (length l ≤ 7) × (breaks l ≡ 0)
+    go : (t : Bool) → leb (length l) mostDigits ≡ t → (u : Bool) → cond t (cond u (valueFrom 0 l) noNum) noNum ≡ num a
+        → (length l ≤ mostDigits) × (breaks l ≡ 0)
     go true p true q = (leb-true _ _ p, value-clean 0 l a q)
     go true p false q = absurd (let z : _≡_ {A = ℕ} 0 1 = cc in omega arith)
     go false p u q = absurd (let z : _≡_ {A = ℕ} 0 1 = cc in omega arith)
@@ -79,7 +71,8 @@ head-short (n ∷ ns) p l =
   where
     go : (t : Bool) → begins l (n .word ++ (44 ∷ [])) ≡ t → length (n .word) ≤ 8 → breaks (n .word) ≡ 0
         → (headIn ns l .end ≤ 9) × (breaks (take (headIn ns l .end) l) ≡ 0)
-        → (headIf t (n .kind) (length (n .word) + 1) (headIn ns l) .end ≤ 9) × (breaks (take (headIf t (n .kind) (length (n .word) + 1) (headIn ns l) .end) l) ≡ 0)
+        → (headIf t (n .kind) (length (n .word) + 1) (headIn ns l) .end ≤ 9) ×
+        (breaks (take (headIf t (n .kind) (length (n .word) + 1) (headIn ns l) .end) l) ≡ 0)
     go true q h g f = (omega arith, rw (word-is (n .word) l q) (clean (n .word) (44 ∷ []) g refl))
     go false q h g f = f
 
@@ -89,7 +82,8 @@ unfolding headIn
 head-front [] l z h = refl
 head-front (n ∷ ns) l z h = go (begins (l ++ z) (n .word ++ (44 ∷ []))) refl h (head-front ns l z)
   where
-    go : (t : Bool) → begins (l ++ z) (n .word ++ (44 ∷ [])) ≡ t → headIf t (n .kind) (length (n .word) + 1) (headIn ns (l ++ z)) .end ≤ length l
+    go : (t : Bool) → begins (l ++ z) (n .word ++ (44 ∷ [])) ≡ t
+        → headIf t (n .kind) (length (n .word) + 1) (headIn ns (l ++ z)) .end ≤ length l
         → (headIn ns (l ++ z) .end ≤ length l → headIn ns l ≡ headIn ns (l ++ z))
         → headIf (begins l (n .word ++ (44 ∷ []))) (n .kind) (length (n .word) + 1) (headIn ns l)
         ≡ headIf t (n .kind) (length (n .word) + 1) (headIn ns (l ++ z))
@@ -122,14 +116,15 @@ module _ (s : List ℕ) (h : Head) (e : h ≡ headIn kinds s) (q r : List ℕ) (
 
   head-same : h ≡ headIn kinds (head ++ q)
   head-same =
-      e ∙ ap (headIn kinds) whole ∙ sym (head-front kinds (head ++ q) (10 ∷ r) (rw (← whole, ← e) (omega (arith, head-length, length-append head q))))
+      e ∙ ap (headIn kinds) whole
+      ∙ sym (head-front kinds (head ++ q) (10 ∷ r) (rw (← whole, ← e) (omega (arith, head-length, length-append head q))))
 
-  says : length q ≤ 55 → (x : Step) → rowAs (h .kind) (split q) ≡ RowStep x → rowOf (head ++ q) ≡ RowStep x
+  says : length q ≤ 55 → (x : Step) → rowAs (h .kind) (split q) ≡ Row.Step x → rowOf (head ++ q) ≡ Row.Step x
   says g x w =
       let f : from (head ++ q) (h .end) ≡ q = from-is (head ++ q) (h .end) (row-fits _ _ head-same) ∙ drop-at head q (h .end) head-length in
       sym (row-is (head ++ q) h head-same (omega (arith, head-fit .0, head-length, length-append head q))) ∙ rw f w
 
-  pub leads : (x : Step) (n : ℕ) → rowAs (h .kind) (split q) ≡ RowStep x → n ≡ h .end + length q + 1
+  leads : (x : Step) (n : ℕ) → rowAs (h .kind) (split q) ≡ Row.Step x → n ≡ h .end + length q + 1
       → breaks q ≡ 0 → 0 < length q → length q ≤ 55 → getD q (length q - 1) 0 ≡ 44 → Leads s x n
   leads x n w k b z g t =
       record {
@@ -139,7 +134,8 @@ module _ (s : List ℕ) (h : Head) (e : h ≡ headIn kinds s) (q r : List ℕ) (
               line = head ++ q;
               ends =
                   ap (take n) (whole ∙ sym (append-assoc (head ++ q) (10 ∷ []) r))
-                  ∙ take-at ((head ++ q) ++ (10 ∷ [])) r n (omega (arith, length-append (head ++ q) (10 ∷ []), length-append head q, head-length));
+                  ∙ take-at ((head ++ q) ++ (10 ∷ [])) r n
+                  (omega (arith, length-append (head ++ q) (10 ∷ []), length-append head q, head-length));
               unbroken = clean head q (head-fit .1) b;
               asks = ap (λ (l : List ℕ). stepIn (rowOf l)) (unended-bare (head ++ q) (last head q z ∙ t)) ∙ ap stepIn (says g x w);
             };
@@ -150,7 +146,8 @@ module _ (s : List ℕ) (h : Head) (e : h ≡ headIn kinds s) (q r : List ℕ) (
 pub word-fits : (s : List ℕ) (k : Kind) (f : ℕ) → headIn kinds s ≡ record { kind = k; end = f } → f ≤ length s
 word-fits s k f h = row-fits s (record { kind = k; end = f }) (sym h)
 
-ending-is : (s v : List ℕ) (f n : ℕ) → f + n ≤ length s → begins (from s (f + n)) v ≡ true → drop n (drop f s) ≡ v ++ drop (length v) (drop n (drop f s))
+ending-is : (s v : List ℕ) (f n : ℕ) → f + n ≤ length s → begins (from s (f + n)) v ≡ true
+    → drop n (drop f s) ≡ v ++ drop (length v) (drop n (drop f s))
 ending-is s v f n h e =
     begins-is (drop n (drop f s)) v (rw drop-drop (rw (from-is s (f + n) h) at e))
 
@@ -160,12 +157,12 @@ number-again : (l z : List ℕ) → numberAt (first l ++ (44 ∷ z)) ≡ numberA
 unfolding numberAt
 number-again l z = rw (first-again l z)
 
-module _ (k : Single) (s : List ℕ) (f a n : ℕ) (h : headIn kinds s ≡ record { kind = WithOne k; end = f }) (e : numberAt (from s f) ≡ Value a n) where
-  told-one : numberAt (drop f s) ≡ Value a n
-  told-one = rw (from-is s f (word-fits s (WithOne k) f h)) at e
+module _ (k : Single) (s : List ℕ) (f a n : ℕ) (h : headIn kinds s ≡ record { kind = Kind.WithOne k; end = f }) (e : numberAt (from s f) ≡ Number.Value a n) where
+  told-one : numberAt (drop f s) ≡ Number.Value a n
+  told-one = rw (from-is s f (word-fits s (Kind.WithOne k) f h)) at e
 
   pub one-fits : f + n ≤ length s
-  one-fits = omega (arith, word-fits s (WithOne k) f h, told-fits (drop f s) a n told-one, length-drop f s)
+  one-fits = omega (arith, word-fits s (Kind.WithOne k) f h, told-fits (drop f s) a n told-one, length-drop f s)
 
   -- the row behind its word and comma
   one-rest : List ℕ
@@ -175,11 +172,12 @@ module _ (k : Single) (s : List ℕ) (f a n : ℕ) (h : headIn kinds s ≡ recor
   unfolding one-rest
   one-length = omega (arith, length-append (first (drop f s)) (44 ∷ 44 ∷ 44 ∷ []), told-end (drop f s) a n told-one)
 
-  one-row : a ≤ 255 → rowAs (WithOne k) (split one-rest) ≡ RowStep (oneStep k a)
+  one-row : a ≤ 255 → rowAs (Kind.WithOne k) (split one-rest) ≡ Row.Step (oneStep k a)
   unfolding one-rest same
   one-row g =
       let c : from one-rest n ≡ 44 ∷ 44 ∷ 44 ∷ [] =
-      from-is one-rest n (omega (arith, one-length)) ∙ drop-at (first (drop f s)) (44 ∷ 44 ∷ 44 ∷ []) n (sym (told-end (drop f s) a n told-one)) in
+      from-is one-rest n (omega (arith, one-length))
+      ∙ drop-at (first (drop f s)) (44 ∷ 44 ∷ 44 ∷ []) n (sym (told-end (drop f s) a n told-one)) in
       sym (one-is k one-rest a n (number-again (drop f s) (44 ∷ 44 ∷ []) ∙ told-one) g (rw c))
 
   pub one-leads : a ≤ 255 → begins (from s (f + n)) (44 ∷ 44 ∷ 44 ∷ 10 ∷ []) ≡ true → Leads s (oneStep k a) (f + n + 4)
@@ -189,7 +187,7 @@ module _ (k : Single) (s : List ℕ) (f a n : ℕ) (h : headIn kinds s ≡ recor
       let fit = number-fits d a (told-value (drop f s) a n told-one) in
       let is : drop f s ≡ one-rest ++ (10 ∷ drop 4 (drop n (drop f s))) =
       first-rest (drop f s) ∙ rw (← told-end (drop f s) a n told-one, append-assoc) (ap (λ (l : List ℕ). d ++ l) (ending-is s (44 ∷ 44 ∷ 44 ∷ 10 ∷ []) f n one-fits b)) in
-      leads s (record { kind = WithOne k; end = f }) (sym h) one-rest (drop 4 (drop n (drop f s))) is (oneStep k a) (f + n + 4) (one-row g)
+      leads s (record { kind = Kind.WithOne k; end = f }) (sym h) one-rest (drop 4 (drop n (drop f s))) is (oneStep k a) (f + n + 4) (one-row g)
       (omega (arith, one-length))
       (clean d (44 ∷ 44 ∷ 44 ∷ []) (fit .1) refl)
       (omega (arith, one-length))
@@ -202,12 +200,12 @@ pair-again : (l z : List ℕ) → pairAt (first l ++ (44 ∷ (first (after l) ++
 unfolding pairAt
 pair-again l z = rw (first-again l _, after-again l _, first-again (after l) z)
 
-module _ (k : Double) (s : List ℕ) (f a b n : ℕ) (h : headIn kinds s ≡ record { kind = WithTwo k; end = f }) (e : pairAt (from s f) ≡ Values a b n) where
-  told-two : pairAt (drop f s) ≡ Values a b n
-  told-two = rw (from-is s f (word-fits s (WithTwo k) f h)) at e
+module _ (k : Double) (s : List ℕ) (f a b n : ℕ) (h : headIn kinds s ≡ record { kind = Kind.WithTwo k; end = f }) (e : pairAt (from s f) ≡ Pair.Values a b n) where
+  told-two : pairAt (drop f s) ≡ Pair.Values a b n
+  told-two = rw (from-is s f (word-fits s (Kind.WithTwo k) f h)) at e
 
   pub two-fits : f + n ≤ length s
-  two-fits = omega (arith, word-fits s (WithTwo k) f h, pair-fits (drop f s) a b n told-two, length-drop f s)
+  two-fits = omega (arith, word-fits s (Kind.WithTwo k) f h, pair-fits (drop f s) a b n told-two, length-drop f s)
 
   -- both numbers with the comma between them
   both : List ℕ
@@ -225,7 +223,7 @@ module _ (k : Double) (s : List ℕ) (f a b n : ℕ) (h : headIn kinds s ≡ rec
   unfolding two-rest
   two-length = omega (arith, length-append both (44 ∷ 44 ∷ []), both-length)
 
-  two-row : a ≤ 255 → b ≤ 255 → rowAs (WithTwo k) (split two-rest) ≡ RowStep (twoStep k a b)
+  two-row : a ≤ 255 → b ≤ 255 → rowAs (Kind.WithTwo k) (split two-rest) ≡ Row.Step (twoStep k a b)
   unfolding two-rest both same
   two-row g u =
       let c : from two-rest n ≡ 44 ∷ 44 ∷ [] = from-is two-rest n (omega (arith, two-length)) ∙ drop-at both (44 ∷ 44 ∷ []) n both-length in
@@ -248,7 +246,7 @@ module _ (k : Double) (s : List ℕ) (f a b n : ℕ) (h : headIn kinds s ≡ rec
       let fit = number-fits (first t) a (pair-first t a b n told-two) in
       let fit-2 = number-fits (first (after t)) b (pair-second t a b n told-two) in
       let z : breaks (44 ∷ first (after t)) ≡ 0 = omega (arith, fit-2 .1) in
-      leads s (record { kind = WithTwo k; end = f }) (sym h) two-rest (drop 3 (drop n t)) (two-split c) (twoStep k a b) (f + n + 3) (two-row g u)
+      leads s (record { kind = Kind.WithTwo k; end = f }) (sym h) two-rest (drop 3 (drop n t)) (two-split c) (twoStep k a b) (f + n + 3) (two-row g u)
       (omega (arith, two-length))
       (clean both (44 ∷ 44 ∷ []) (clean (first t) (44 ∷ first (after t)) (fit .1) z) refl)
       (omega (arith, two-length))
@@ -257,10 +255,10 @@ module _ (k : Double) (s : List ℕ) (f a b n : ℕ) (h : headIn kinds s ≡ rec
 
 -- ---- the answer
 
-pub unclear : (s : List ℕ) (x : Step) (n : ℕ) → Unclear ≡ Whole x n → Leads s x n
+pub unclear : (s : List ℕ) (x : Step) (n : ℕ) → Ahead.Unclear ≡ Ahead.Whole x n → Leads s x n
 unclear s x n e = absurd (let z : _≡_ {A = ℕ} 0 1 = cc in omega arith)
 
-pub only : (s : List ℕ) (y z : Step) (m : ℕ) → y ≡ z → Leads s z m → (x : Step) (n : ℕ) → Whole y m ≡ Whole x n → Leads s x n
+pub only : (s : List ℕ) (y z : Step) (m : ℕ) → y ≡ z → Leads s z m → (x : Step) (n : ℕ) → Ahead.Whole y m ≡ Ahead.Whole x n → Leads s x n
 only s y z m d l x n e =
     let p : z ≡ x = cc in
     let q : m ≡ n = cc in

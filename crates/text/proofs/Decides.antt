@@ -4,8 +4,7 @@
 use Prim.Native.Nat.{ℕ, _<_}
 use mathlib.Core.Path.{_≡_, sym, _∙_}
 use mathlib.Core.Bool.{Bool}
-use Rattle.text.specs.declared.row.Row.{Row}
-use Rattle.text.specs.declared.whole.Found.{Found}
+use Rattle.text.specs.Names.{Found, Row}
 use Rattle.text.proofs.EndLaws.{trimmed-one, found-one}
 use Rattle.text.proofs.row.parse.Reads as parse
 use Rattle.text.proofs.row.is_header.Reads as is-header
@@ -21,5 +20,6 @@ is-header-decides κs a x y s s′ p q = p ∙ sym q
 pub trim-decides : (κs : _) (a : _) (n m : ℕ) (s s′ : _) → trim.Post κs a n s → trim.Post κs a m s′ → n ≡ m
 trim-decides κs a n m s s′ p q = trimmed-one _ n m (p .0) (p .1) (q .0) (q .1)
 
-pub find-decides : (κs : _) (a : _) (x y : Found) (s s′ : _) → find.Pre κs a → find.Post κs a x s → find.Post κs a y s′ → (x .end ≡ y .end) × (a .1 .0 < x .end → x .step ≡ y .step)
+pub find-decides : (κs : _) (a : _) (x y : Found) (s s′ : _) → find.Pre κs a → find.Post κs a x s → find.Post κs a y s′
+    → (x .end ≡ y .end) × (a .1 .0 < x .end → x .step ≡ y .step)
 find-decides κs a x y s s′ h p q = found-one _ _ h (x .end) (y .end) (x .step) (y .step) p q

@@ -8,7 +8,7 @@ use lib.ListN.{length, getD, take, drop, length-append, length-drop, length-take
 use lib.Seq.{length-take-le, take-length}
 use lib.Dec.{ltb}
 use borrow.Author.Tests.{eq-eqb, ne-eqb, ltb-true, ltb-false}
-use Rattle.parts.specs.declared.step.Step.{Step}
+use Rattle.text.specs.Names.{Step}
 use Rattle.text.specs.Ends.{unended, breaks, stepIn, OneRow, Finds, Leads}
 use Rattle.text.specs.Rows.{rowOf}
 use Rattle.text.proofs.BreakLaws.{breaks-append, part-all, part-lf}
@@ -38,7 +38,8 @@ trimmed-one l n m e h f g = omega (arith, length-take-le n l h, length-take-le m
 -- ---- a row with its LF
 
 -- the row from i to the LF at e
-pub ended-row : (s : List ℕ) (i e : ℕ) (l : List ℕ) (x : Step) → i ≤ e → e < length s → breaks (take (e - i) (drop i s)) ≡ 0 → getD s e 0 ≡ 10 → l ≡ unended (take (e - i) (drop i s)) → x ≡ stepIn (rowOf l) → OneRow (take (e + 1 - i) (drop i s)) x
+pub ended-row : (s : List ℕ) (i e : ℕ) (l : List ℕ) (x : Step) → i ≤ e → e < length s → breaks (take (e - i) (drop i s)) ≡ 0
+    → getD s e 0 ≡ 10 → l ≡ unended (take (e - i) (drop i s)) → x ≡ stepIn (rowOf l) → OneRow (take (e + 1 - i) (drop i s)) x
 ended-row s i e l x h k bare lf le xe =
     record { line = take (e - i) (drop i s); ends = part-lf s i e h k lf; unbroken = bare; asks = ap (λ (z : List ℕ). stepIn (rowOf z)) (sym le) ∙ sym xe }
 
@@ -46,7 +47,8 @@ lead-length : (s : List ℕ) (x : Step) (n : ℕ) (l : Leads s x n) → n ≡ le
 lead-length s x n l = omega (arith, l .within, length-take n s, ap length (l .row .ends), length-append (l .row .line) (10 ∷ []))
 
 -- the row from i on
-pub led-found : (s : List ℕ) (i : ℕ) (x : Step) (n : ℕ) → i ≤ length s → Leads (take (length s - i) (drop i s)) x n → (i + n ≤ length s) × (0 < n) × OneRow (take (i + n - i) (drop i s)) x
+pub led-found : (s : List ℕ) (i : ℕ) (x : Step) (n : ℕ) → i ≤ length s → Leads (take (length s - i) (drop i s)) x n
+    → (i + n ≤ length s) × (0 < n) × OneRow (take (i + n - i) (drop i s)) x
 led-found s i x n h f =
     let g : Leads (drop i s) x n = rw (part-all s i) at f in
     let e : i + n - i ≡ n = omega arith in
@@ -73,13 +75,13 @@ line-is (b ∷ l) (c ∷ m) p q h g e =
 lead-is : (s : List ℕ) (x : Step) (n : ℕ) (l : Leads s x n) → s ≡ l .row .line ++ (10 ∷ drop n s)
 lead-is s x n l = sym (take-append-drop n s) ∙ rw (l .row .ends, append-assoc)
 
-pub lead-one : (s : List ℕ) (x y : Step) (n m : ℕ) → Leads s x n → Leads s y m → (x ≡ y) × (n ≡ m)
+lead-one : (s : List ℕ) (x y : Step) (n m : ℕ) → Leads s x n → Leads s y m → (x ≡ y) × (n ≡ m)
 lead-one s x y n m l r =
     let e : l .row .line ≡ r .row .line = line-is (l .row .line) (r .row .line) (drop n s) (drop m s) (l .row .unbroken) (r .row .unbroken) (sym (lead-is s x n l) ∙ lead-is s y m r) in
     (sym (l .row .asks) ∙ ap (λ (z : List ℕ). stepIn (rowOf (unended z))) e ∙ r .row .asks, omega (arith, lead-length s x n l, lead-length s y m r, ap length e))
 
 -- a row is there or is not
-pub lead-some : (s : List ℕ) (x : Step) (n : ℕ) → Leads s x n → breaks s ≡ 0 → ⊥
+lead-some : (s : List ℕ) (x : Step) (n : ℕ) → Leads s x n → breaks s ≡ 0 → ⊥
 unfolding breaks
 lead-some s x n l h = let b : breaks (l .row .line ++ (10 ∷ drop n s)) ≡ 0 = rw (lead-is s x n l) at h in omega (arith, breaks-append (l .row .line) (10 ∷ drop n s))
 

@@ -79,7 +79,8 @@ unfolding first after
 after-some [] h = absurd (omega arith)
 after-some (b ∷ l) h = rw add-one (go (eqb b 44) h (after-some l))
   where
-    go : (t : Bool) → length (cond t [] (b ∷ first l)) < suc (length l) → (length (first l) < length l → after l ≡ drop (length (first l) + 1) l)
+    go : (t : Bool) → length (cond t [] (b ∷ first l)) < suc (length l)
+        → (length (first l) < length l → after l ≡ drop (length (first l) + 1) l)
         → cond t l (after l) ≡ drop (suc (length (cond t [] (b ∷ first l)))) (b ∷ l)
     go true h f = refl
     go false h f = f (omega arith) ∙ rw add-one
@@ -100,7 +101,8 @@ unfolding first after
 first-after [] h = absurd (omega arith)
 first-after (b ∷ l) h = go (eqb b 44) refl h (first-after l)
   where
-    go : (t : Bool) → eqb b 44 ≡ t → length (cond t [] (b ∷ first l)) < suc (length l) → (length (first l) < length l → l ≡ first l ++ (44 ∷ after l))
+    go : (t : Bool) → eqb b 44 ≡ t → length (cond t [] (b ∷ first l)) < suc (length l)
+        → (length (first l) < length l → l ≡ first l ++ (44 ∷ after l))
         → _≡_ {A = List ℕ} (b ∷ l) (cond t [] (b ∷ first l) ++ (44 ∷ cond t l (after l)))
     go true p h f = let e : b ≡ 44 = eqb-true b 44 p in cc
     go false p h f = ap (λ (m : List ℕ). b ∷ m) (f (omega arith))
@@ -111,7 +113,8 @@ unfolding first
 first-again [] z = refl
 first-again (b ∷ l) z = go (eqb b 44) refl (first-again l z)
   where
-    go : (t : Bool) → eqb b 44 ≡ t → first (first l ++ (44 ∷ z)) ≡ first l → first (cond t [] (b ∷ first l) ++ (44 ∷ z)) ≡ cond t [] (b ∷ first l)
+    go : (t : Bool) → eqb b 44 ≡ t → first (first l ++ (44 ∷ z)) ≡ first l
+        → first (cond t [] (b ∷ first l) ++ (44 ∷ z)) ≡ cond t [] (b ∷ first l)
     go true p e = refl
     go false p e = rw (p, e)
 
@@ -240,7 +243,8 @@ unfolding more first
 more-yes [] e = absurd (let z : _≡_ {A = ℕ} 0 1 = cc in omega arith)
 more-yes (b ∷ l) e = go (eqb b 44) e (more-yes l)
   where
-    go : (t : Bool) → cond t true (more l) ≡ true → (more l ≡ true → length (first l) < length l) → length (cond t [] (b ∷ first l)) < suc (length l)
+    go : (t : Bool) → cond t true (more l) ≡ true → (more l ≡ true → length (first l) < length l)
+        → length (cond t [] (b ∷ first l)) < suc (length l)
     go true e f = omega arith
     go false e f = let h : length (first l) < length l = f e in omega arith
 

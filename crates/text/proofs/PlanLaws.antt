@@ -9,15 +9,12 @@ use lib.ListN.{length}
 use Rattle.text.specs.Fields.{Num, noNum, num, split, numberOf, unpadded}
 use Rattle.text.specs.Pieces.{first, after, pairAt}
 use Rattle.text.specs.Rows.{planBy, rowBy, rowAs}
-use Rattle.text.specs.declared.field.Pair.the-variants.{NoPair, Values}
-use Rattle.text.specs.declared.row.Row.{Row}
-use Rattle.text.specs.declared.row.Row.the-variants.{Other, Plan}
-use Rattle.text.specs.declared.word.Kind.the-variants.{Plans}
+use Rattle.text.specs.Names.{Kind, Pair, Row}
 use Rattle.text.proofs.FieldLaws.{from, others, split-is, unused}
 use Rattle.text.proofs.PairLaws.{next, pair-no, pair-first, pair-second, pair-split, pair-last, pair-others}
 
 -- no plan without a number in the third or the fourth
-plan-no : (x y z w : Num) → (z ≡ noNum) ⊎ (w ≡ noNum) → planBy x y z w ≡ Other
+plan-no : (x y z w : Num) → (z ≡ noNum) ⊎ (w ≡ noNum) → planBy x y z w ≡ Row.Other
 plan-no noNum y z w h = refl
 plan-no (num a) noNum z w h = refl
 plan-no (num a) (num b) noNum w h = refl
@@ -27,9 +24,9 @@ plan-no (num a) (num b) (num c) (num d) h =
 
 -- the third and the fourth, with no field behind them
 abbrev planFrom : Num → Num → List ℕ → Row
-planFrom x y t = cond (unused 0 (others (after t))) (planBy x y (numberOf (first t)) (numberOf (first (after t)))) Other
+planFrom x y t = cond (unused 0 (others (after t))) (planBy x y (numberOf (first t)) (numberOf (first (after t)))) Row.Other
 
-plan-half : (x y t : List ℕ) → rowAs Plans (x ∷ y ∷ split t) ≡ planFrom (numberOf x) (numberOf y) t
+plan-half : (x y t : List ℕ) → rowAs Kind.Plans (x ∷ y ∷ split t) ≡ planFrom (numberOf x) (numberOf y) t
 unfolding rowAs rowBy unused first others numberOf unpadded
 plan-half x y t =
     rw (split-is t) (⊎-elim
@@ -37,25 +34,25 @@ plan-half x y t =
     (λ o. rw o (go (others (after t))))
     (next t))
   where
-    go : (fs : List (List ℕ)) → rowAs Plans (x ∷ y ∷ first t ∷ first (after t) ∷ fs)
-        ≡ cond (unused 0 fs) (planBy (numberOf x) (numberOf y) (numberOf (first t)) (numberOf (first (after t)))) Other
+    go : (fs : List (List ℕ)) → rowAs Kind.Plans (x ∷ y ∷ first t ∷ first (after t) ∷ fs)
+        ≡ cond (unused 0 fs) (planBy (numberOf x) (numberOf y) (numberOf (first t)) (numberOf (first (after t)))) Row.Other
     go [] = refl
     go (f ∷ fs) = refl
 
 -- no plan without numbers in the first two
-plan-bad : (x y : List ℕ) (fs : List (List ℕ)) → (numberOf x ≡ noNum) ⊎ (numberOf y ≡ noNum) → rowAs Plans (x ∷ y ∷ fs) ≡ Other
+plan-bad : (x y : List ℕ) (fs : List (List ℕ)) → (numberOf x ≡ noNum) ⊎ (numberOf y ≡ noNum) → rowAs Kind.Plans (x ∷ y ∷ fs) ≡ Row.Other
 unfolding rowAs rowBy
 plan-bad x y [] h = refl
 plan-bad x y (c ∷ []) h = refl
 plan-bad x y (c ∷ d ∷ []) h =
     ⊎-elim (λ e. rw e) (λ e. rw e (go (numberOf x))) h
   where
-    go : (z : Num) → planBy z noNum (numberOf c) (numberOf d) ≡ Other
+    go : (z : Num) → planBy z noNum (numberOf c) (numberOf d) ≡ Row.Other
     go noNum = refl
     go (num a) = refl
 plan-bad x y (c ∷ d ∷ e ∷ fs) h = refl
 
-pub plan-none : (s : List ℕ) → pairAt s ≡ NoPair → Other ≡ rowAs Plans (split s)
+pub plan-none : (s : List ℕ) → pairAt s ≡ Pair.NoPair → Row.Other ≡ rowAs Kind.Plans (split s)
 unfolding rowAs pairAt
 plan-none s e =
     sym (rw (split-is s) (⊎-elim
@@ -63,35 +60,36 @@ plan-none s e =
     (λ o. rw o (plan-bad (first s) (first (after s)) (others (after s)) (pair-no (numberOf (first s)) (numberOf (first (after s))) _ e)))
     (next s)))
 
-module _ (s : List ℕ) (n k i : ℕ) (e : pairAt s ≡ Values n k i) where
-  pub plan-short : i ≡ length s → Other ≡ rowAs Plans (split s)
+module _ (s : List ℕ) (n k i : ℕ) (e : pairAt s ≡ Pair.Values n k i) where
+  pub plan-short : i ≡ length s → Row.Other ≡ rowAs Kind.Plans (split s)
   unfolding rowAs
   plan-short h = sym (rw (pair-split s n k i e, pair-last s n k i e h))
 
   module _ (h : i ≡ length s → ⊥) where
-    plan-rest : rowAs Plans (split s) ≡ planFrom (num n) (num k) (from s (i + 1))
+    plan-rest : rowAs Kind.Plans (split s) ≡ planFrom (num n) (num k) (from s (i + 1))
     plan-rest =
-        rw (pair-split s n k i e, pair-others s n k i e h) (plan-half (first s) (first (after s)) (from s (i + 1)) ∙ rw (pair-first s n k i e, pair-second s n k i e))
+        rw (pair-split s n k i e, pair-others s n k i e h)
+        (plan-half (first s) (first (after s)) (from s (i + 1)) ∙ rw (pair-first s n k i e, pair-second s n k i e))
 
-    pub plan-none-2 : pairAt (from s (i + 1)) ≡ NoPair → Other ≡ rowAs Plans (split s)
+    pub plan-none-2 : pairAt (from s (i + 1)) ≡ Pair.NoPair → Row.Other ≡ rowAs Kind.Plans (split s)
     unfolding pairAt
     plan-none-2 f =
         let t : List ℕ = from s (i + 1) in
         let bad = pair-no (numberOf (first t)) (numberOf (first (after t))) _ f in
         sym (plan-rest ∙ go (unused 0 (others (after t))) (plan-no (num n) (num k) (numberOf (first t)) (numberOf (first (after t))) bad))
       where
-        go : {x : Row} (t : Bool) → x ≡ Other → cond t x Other ≡ Other
+        go : {x : Row} (t : Bool) → x ≡ Row.Other → cond t x Row.Other ≡ Row.Other
         go true q = q
         go false q = refl
 
-    module _ (r b j : ℕ) (f : pairAt (from s (i + 1)) ≡ Values r b j) where
-      pub plan-is : j ≡ length (from s (i + 1)) → Plan n k r b ≡ rowAs Plans (split s)
+    module _ (r b j : ℕ) (f : pairAt (from s (i + 1)) ≡ Pair.Values r b j) where
+      pub plan-is : j ≡ length (from s (i + 1)) → Row.Plan n k r b ≡ rowAs Kind.Plans (split s)
       unfolding unused
       plan-is g =
           let t : List ℕ = from s (i + 1) in
           sym (plan-rest ∙ rw (pair-last t r b j f g, pair-first t r b j f, pair-second t r b j f))
 
-      pub plan-long : (j ≡ length (from s (i + 1)) → ⊥) → Other ≡ rowAs Plans (split s)
+      pub plan-long : (j ≡ length (from s (i + 1)) → ⊥) → Row.Other ≡ rowAs Kind.Plans (split s)
       unfolding unused
       plan-long g =
           let t : List ℕ = from s (i + 1) in

@@ -9,13 +9,9 @@ use lib.Dec.{eqb}
 use borrow.Author.Tests.{ne-eqb, le-leb, lt-leb}
 use Rattle.text.specs.Fields.{same, split}
 use Rattle.text.specs.Pieces.{begins, first, headIf, noHead, headIn, leadBy}
-use Rattle.text.specs.Rows.{rowAs, rowBy, rowOfFields, rowOf}
+use Rattle.text.specs.Rows.{rowAs, rowBy, rowOfFields, rowOf, mostBytes}
 use Rattle.text.specs.Words.{Named, named, kindIn, kinds}
-use Rattle.text.specs.declared.row.Row.{Row}
-use Rattle.text.specs.declared.row.Row.the-variants.{Other}
-use Rattle.text.specs.declared.word.Head.{Head}
-use Rattle.text.specs.declared.word.Kind.{Kind}
-use Rattle.text.specs.declared.word.Kind.the-variants.{NoKind}
+use Rattle.text.specs.Names.{Head, Kind, Row}
 use Rattle.text.proofs.BytesLaws.{same-is, begins-fits, begins-is}
 use Rattle.text.proofs.FieldLaws.{from, from-is, others, more, split-is, others-some, after-some, plain, begins-word, more-yes, more-no}
 
@@ -36,7 +32,8 @@ by-lead (n ∷ ns) (c ∷ m) b h e = go (n .word) (by-lead ns (c ∷ m) b h e)
     pick x v true q f = rw f
     pick x v false q f = rw (ap (λ (z : ℕ). eqb z x) e ∙ q, f)
 
-    go : (w : List ℕ) → headIn (leadBy b ns) (c ∷ m) ≡ headIn ns (c ∷ m) → headIn (leadBy b (with w ∷ ns)) (c ∷ m) ≡ headIn (with w ∷ ns) (c ∷ m)
+    go : (w : List ℕ) → headIn (leadBy b ns) (c ∷ m) ≡ headIn ns (c ∷ m)
+        → headIn (leadBy b (with w ∷ ns)) (c ∷ m) ≡ headIn (with w ∷ ns) (c ∷ m)
     go [] f = rw f
     go (x ∷ v) f = pick x v (eqb b x) refl f
 
@@ -62,7 +59,7 @@ by-empty (b ∷ l) h = absurd (omega arith)
 
 -- ---- the row of a line that begins with a word
 
-pub no-kind : (fs : List (List ℕ)) → rowAs NoKind fs ≡ Other
+pub no-kind : (fs : List (List ℕ)) → rowAs Kind.NoKind fs ≡ Row.Other
 unfolding rowAs rowBy
 no-kind [] = refl
 no-kind (a ∷ []) = refl
@@ -80,7 +77,8 @@ allPlain (n ∷ ns) = plain (n .word) && allPlain ns
 abbrev rowFrom : Head → List ℕ → Row
 rowFrom h l = rowAs (h .kind) (split (drop (h .end) l))
 
-word-row : (k : Kind) (v l : List ℕ) → same (first l) v ≡ true → more l ≡ true → rowAs k (others l) ≡ rowAs k (split (drop (length v + 1) l))
+word-row : (k : Kind) (v l : List ℕ) → same (first l) v ≡ true → more l ≡ true
+    → rowAs k (others l) ≡ rowAs k (split (drop (length v + 1) l))
 word-row k v l s m =
     rw (others-some l (more-yes l m), after-some l (more-yes l m), same-is (first l) v s)
 
@@ -91,8 +89,10 @@ head-row (n ∷ ns) p l =
     let both = and-eq-true-iff (plain (n .word)) (allPlain ns) .0 p in
     rw (begins-word (n .word) (both .0) l) (go (same (first l) (n .word)) refl (more l) refl (head-row ns (both .1) l))
   where
-    go : (s : Bool) → same (first l) (n .word) ≡ s → (m : Bool) → more l ≡ m → rowFrom (headIn ns l) l ≡ rowAs (kindIn ns (first l)) (others l)
-        → rowFrom (headIf (s && m) (n .kind) (length (n .word) + 1) (headIn ns l)) l ≡ rowAs (cond s (n .kind) (kindIn ns (first l))) (others l)
+    go : (s : Bool) → same (first l) (n .word) ≡ s → (m : Bool) → more l ≡ m
+        → rowFrom (headIn ns l) l ≡ rowAs (kindIn ns (first l)) (others l)
+        → rowFrom (headIf (s && m) (n .kind) (length (n .word) + 1) (headIn ns l)) l ≡ rowAs (cond s (n .kind) (kindIn ns (first l)))
+        (others l)
     go true q true r f = sym (word-row (n .kind) (n .word) l q r)
     go true q false r f = f ∙ rw (more-no l r)
     go false q m r f = f
@@ -102,21 +102,22 @@ unfolding headIn
 head-fits [] l = omega arith
 head-fits (n ∷ ns) l = go (begins l (n .word ++ (44 ∷ []))) refl (head-fits ns l)
   where
-    go : (t : Bool) → begins l (n .word ++ (44 ∷ [])) ≡ t → headIn ns l .end ≤ length l → headIf t (n .kind) (length (n .word) + 1) (headIn ns l) .end ≤ length l
+    go : (t : Bool) → begins l (n .word ++ (44 ∷ [])) ≡ t → headIn ns l .end ≤ length l
+        → headIf t (n .kind) (length (n .word) + 1) (headIn ns l) .end ≤ length l
     go true q f = omega (arith, begins-fits l (n .word ++ (44 ∷ [])) q, length-append (n .word) (44 ∷ []))
     go false q f = f
 
 -- ---- the row of a line
 
 -- "over 64 bytes, is answered 2"
-pub row-long : (l : List ℕ) → 64 < length l → Other ≡ rowOf l
+pub row-long : (l : List ℕ) → mostBytes < length l → Row.Other ≡ rowOf l
 unfolding rowOf
-row-long l h = rw (lt-leb (length l) 64 h)
+row-long l h = rw (lt-leb (length l) mostBytes h)
 
 pub row-fits : (l : List ℕ) (h : Head) → h ≡ headIn kinds l → h .end ≤ length l
 row-fits l h e = rw e (head-fits kinds l)
 
-pub row-is : (l : List ℕ) (h : Head) → h ≡ headIn kinds l → length l ≤ 64 → rowAs (h .kind) (split (from l (h .end))) ≡ rowOf l
+pub row-is : (l : List ℕ) (h : Head) → h ≡ headIn kinds l → length l ≤ mostBytes → rowAs (h .kind) (split (from l (h .end))) ≡ rowOf l
 unfolding rowOf rowOfFields allPlain plain
 row-is l h e g =
-    rw (e, from-is l (headIn kinds l .end) (head-fits kinds l), le-leb (length l) 64 g, split-is l) (head-row kinds refl l)
+    rw (e, from-is l (headIn kinds l .end) (head-fits kinds l), le-leb (length l) mostBytes g, split-is l) (head-row kinds refl l)

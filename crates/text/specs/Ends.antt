@@ -5,11 +5,8 @@ use mathlib.Core.List.{List, [], _∷_, _++_}
 use mathlib.Core.Path.{_≡_}
 use lib.Dec.{eqb}
 use lib.ListN.{length, getD, take, drop}
-use Rattle.parts.specs.declared.step.Step.{Step}
-use Rattle.parts.specs.declared.step.Step.the-variants.{Other as NoKind}
+use Rattle.text.specs.Names.{Row, Step}
 use Rattle.text.specs.Rows.{rowOf}
-use Rattle.text.specs.declared.row.Row.{Row}
-use Rattle.text.specs.declared.row.Row.the-variants.{Other, Plan, Step as RowStep}
 
 -- "Rows end in LF or CRLF, which isn't counted": one CR, whose byte is 13, belongs to the end
 unfoldable pub unended : List ℕ → List ℕ
@@ -22,9 +19,9 @@ breaks (b ∷ l) = cond (eqb b 10) 1 0 + breaks l
 
 -- where steps are due, a row that is no step stands for a step of no known kind: that is answered 2 and changes nothing, too
 abbrev pub stepIn : Row → Step
-stepIn Other = NoKind
-stepIn (Plan n k r b) = NoKind
-stepIn (RowStep x) = x
+stepIn Row.Other = Step.Other
+stepIn (Row.Plan n k r b) = Step.Other
+stepIn (Row.Step x) = x
 
 -- these bytes are a line and its LF, and the line asks for x
 pub record OneRow (l : List ℕ) (x : Step) : Type 0 where

@@ -8,15 +8,7 @@ use lib.ListN.{length}
 use Rattle.text.specs.Fields.{isEmpty, Num, noNum, num, numberOf, byteOf}
 use Rattle.text.specs.Rows.{openBy, readingOf}
 use Rattle.text.specs.Words.{Named}
-use Rattle.text.specs.declared.field.Number.{Number}
-use Rattle.text.specs.declared.field.Number.the-variants.{NoNumber, Value}
-use Rattle.text.specs.declared.field.Pair.{Pair}
-use Rattle.text.specs.declared.field.Pair.the-variants.{NoPair, Values}
-use Rattle.text.specs.declared.reading.Said.{Said}
-use Rattle.text.specs.declared.reading.Said.the-variants.{Nothing}
-use Rattle.text.specs.declared.word.Head.{Head}
-use Rattle.text.specs.declared.word.Kind.{Kind}
-use Rattle.text.specs.declared.word.Kind.the-variants.{NoKind}
+use Rattle.text.specs.Names.{Head, Kind, Number, Pair, Said}
 
 -- whether a line begins with these bytes
 unfoldable pub begins : List ℕ → List ℕ → Bool
@@ -36,42 +28,42 @@ after (b ∷ l) = cond (eqb b 44) l (after l)
 
 -- the number in the first field, with the length of the field
 abbrev pub numberBy : Num → ℕ → Number
-numberBy noNum n = NoNumber
-numberBy (num v) n = Value v n
+numberBy noNum n = Number.NoNumber
+numberBy (num v) n = Number.Value v n
 
 unfoldable pub numberAt : List ℕ → Number
 numberAt s = numberBy (numberOf (first s)) (length (first s))
 
 -- the numbers in the first two fields, with the length of both and of the comma between them
 abbrev pub pairBy : Num → Num → ℕ → Pair
-pairBy noNum y n = NoPair
-pairBy (num a) noNum n = NoPair
-pairBy (num a) (num b) n = Values a b n
+pairBy noNum y n = Pair.NoPair
+pairBy (num a) noNum n = Pair.NoPair
+pairBy (num a) (num b) n = Pair.Values a b n
 
 unfoldable pub pairAt : List ℕ → Pair
 pairAt s = pairBy (numberOf (first s)) (numberOf (first (after s))) (length (first s) + 1 + length (first (after s)))
 
 -- the three fields after a write's client
 unfoldable pub readingIn : List (List ℕ) → Said
-readingIn [] = Nothing
-readingIn (w ∷ []) = Nothing
-readingIn (w ∷ m ∷ []) = Nothing
+readingIn [] = Said.Nothing
+readingIn (w ∷ []) = Said.Nothing
+readingIn (w ∷ m ∷ []) = Said.Nothing
 readingIn (w ∷ m ∷ e ∷ []) = readingOf w m e
-readingIn (w ∷ m ∷ e ∷ f ∷ fs) = Nothing
+readingIn (w ∷ m ∷ e ∷ f ∷ fs) = Said.Nothing
 
 -- a field of minutes, and one that is not used
 unfoldable pub minutesIn : List (List ℕ) → Said
-minutesIn [] = Nothing
-minutesIn (m ∷ []) = Nothing
+minutesIn [] = Said.Nothing
+minutesIn (m ∷ []) = Said.Nothing
 minutesIn (m ∷ e ∷ []) = openBy (byteOf m) (isEmpty e)
-minutesIn (m ∷ e ∷ f ∷ fs) = Nothing
+minutesIn (m ∷ e ∷ f ∷ fs) = Said.Nothing
 
 -- the kind of the first word that the line begins with, and the length of the word and its comma
 abbrev pub headIf : Bool → Kind → ℕ → Head → Head
 headIf t k n h = cond t (record { kind = k; end = n }) h
 
 abbrev pub noHead : Head
-noHead = record { kind = NoKind; end = 0 }
+noHead = record { kind = Kind.NoKind; end = 0 }
 
 unfoldable pub headIn : List Named → List ℕ → Head
 headIn [] l = noHead

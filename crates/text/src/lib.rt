@@ -7,6 +7,7 @@ mod row;
 mod whole;
 mod word;
 
+pub use row::MOST_BYTES;
 pub use row::Row;
 pub use row::is_header;
 pub use row::parse;

@@ -9,7 +9,7 @@ use super::word;
 use super::word::Double;
 use super::word::Kind;
 use super::word::Single;
-use parts::Step;
+use types::Step;
 ghost use mathlib.Core.Path.{_≡_};
 ghost use Rattle.text.specs.Fields.{split};
 ghost use Rattle.text.specs.Rows.{oneStep, twoStep, rowAs, rowOf, isHeader};
@@ -21,6 +21,7 @@ pub enum Row {
     Step(Step),
 }
 
+// A longer line is of no form; its bytes past these need not be kept.
 pub const MOST_BYTES: usize = 64;
 
 pub fn one_step(k: Single, a: u8) -> Step

@@ -3,7 +3,7 @@ use super::ahead::Ahead;
 use super::ahead::step_ahead;
 use super::row::Row;
 use super::row::parse;
-use parts::Step;
+use types::Step;
 ghost use mathlib.Core.Path.{_≡_};
 ghost use Prim.Native.Nat.{_≤_, _<_, _-_};
 ghost use lib.ListN.{length, getD, take, drop};

@@ -7,11 +7,10 @@ use mathlib.Core.Path.{_≡_, refl, sym, _∙_, ap}
 use lib.ListN.{length, take, drop, take-append-drop}
 use lib.Seq.{length-take-le}
 use denote.Ref.{now}
-use Rattle.run.specs.declared.Run.{Run}
+use Rattle.turns.specs.Names.{Run, Went}
 use Rattle.run.specs.Lists.{runAll}
 use Rattle.print.specs.Put.{put}
 use Rattle.turns.specs.Turns.{closed, stepsIn, textAll, Took}
-use Rattle.turns.specs.declared.turn.Went.{Went}
 use Rattle.turns.proofs.LineLaws.{one-set}
 use Rattle.turns.proofs.turn.steps.Reads as steps
 
@@ -35,12 +34,14 @@ module _ (s : List ℕ) (at row : ℕ) (run : Run) (d e f : List ℕ) (r w : Wen
   same-run : r .run ≡ w .run
   same-run = p .goes ∙ ap (λ (l : List (List ℕ)). runAll run (stepsIn l)) same-lines ∙ sym (q .goes)
 
-  went : (u o n : ℕ) (held : Run) → r .used ≡ u → r .at ≡ o → r .row ≡ n → r .run ≡ held → r ≡ record { used = u; at = o; row = n; run = held }
+  went : (u o n : ℕ) (held : Run) → r .used ≡ u → r .at ≡ o → r .row ≡ n → r .run ≡ held
+      → r ≡ record { used = u; at = o; row = n; run = held }
   went u o n held a b c h = rw (← a, ← b, ← c, ← h) refl
 
   pub took-one : (r ≡ w) × (e ≡ f)
   took-one =
       (went (w .used) (w .at) (w .row) (w .run) same-used same-at same-row same-run, p .says ∙ ap (λ (l : List (List ℕ)). put d at (textAll row run (stepsIn l))) same-lines ∙ sym (q .says))
 
-pub steps-decides : (κs : _) (a : _) (r w : Went) (s s′ : _) → steps.Post κs a r s → steps.Post κs a w s′ → (r ≡ w) × (now (s .1 .0) ≡ now (s′ .1 .0))
+pub steps-decides : (κs : _) (a : _) (r w : Went) (s s′ : _) → steps.Post κs a r s → steps.Post κs a w s′
+    → (r ≡ w) × (now (s .1 .0) ≡ now (s′ .1 .0))
 steps-decides κs a r w s s′ p q = took-one _ _ _ _ _ _ _ r w p q

@@ -4,8 +4,7 @@ use native.Mathlib.Omega.{arith}
 use mathlib.Core.List.{List, [], _∷_, _++_, append-assoc, append-nil}
 use mathlib.Core.Path.{_≡_, refl, sym, _∙_, ap}
 use lib.ListN.{length}
-use Rattle.parts.specs.declared.step.Step.{Step}
-use Rattle.run.specs.declared.Run.{Run}
+use Rattle.turns.specs.Names.{Run, Step}
 use Rattle.run.specs.Lists.{runAll}
 use Rattle.run.specs.Steps.{stepOf}
 use Rattle.text.specs.Ends.{unended, breaks, stepIn}
@@ -42,7 +41,8 @@ unfolding runAll
 run-more run [] x = refl
 run-more run (y ∷ xs) x = run-more (stepOf run y .run) xs x
 
-pub text-more : (n : ℕ) (run : Run) (xs : List Step) (x : Step) → textAll n run (xs ++ (x ∷ [])) ≡ textAll n run xs ++ stepText (n + length xs) (stepOf (runAll run xs) x .answer)
+pub text-more : (n : ℕ) (run : Run) (xs : List Step) (x : Step)
+    → textAll n run (xs ++ (x ∷ [])) ≡ textAll n run xs ++ stepText (n + length xs) (stepOf (runAll run xs) x .answer)
 unfolding textAll runAll
 text-more n run [] x = let e : n + 0 ≡ n = omega arith in rw (e, append-nil)
 text-more n run (y ∷ xs) x =
@@ -61,7 +61,8 @@ behind : (l k z : List ℕ) → l ++ (10 ∷ k) ≡ l ++ (10 ∷ z) → k ≡ z
 behind [] k z e = cc
 behind (b ∷ l) k z e = behind l k z (cc)
 
-pub one-set : (ls ms : List (List ℕ)) (p q : List ℕ) → breaksIn ls ≡ 0 → breaksIn ms ≡ 0 → breaks p ≡ 0 → breaks q ≡ 0 → closed ls ++ p ≡ closed ms ++ q → (ls ≡ ms) × (p ≡ q)
+pub one-set : (ls ms : List (List ℕ)) (p q : List ℕ) → breaksIn ls ≡ 0 → breaksIn ms ≡ 0 → breaks p ≡ 0 → breaks q ≡ 0
+    → closed ls ++ p ≡ closed ms ++ q → (ls ≡ ms) × (p ≡ q)
 unfolding closed breaksIn
 one-set [] [] p q a b h k e = (refl, e)
 one-set [] (m ∷ ms) p q a b h k e = absurd (no-line m ms p q h e)
@@ -69,5 +70,7 @@ one-set (l ∷ ls) [] p q a b h k e = absurd (no-line l ls q p k (sym e))
 one-set (l ∷ ls) (m ∷ ms) p q a b h k e =
     let f : l ++ (10 ∷ (closed ls ++ p)) ≡ m ++ (10 ∷ (closed ms ++ q)) = sym (append-assoc l (10 ∷ closed ls) p) ∙ e ∙ append-assoc m (10 ∷ closed ms) q in
     let g : l ≡ m = line-is l m (closed ls ++ p) (closed ms ++ q) (omega arith) (omega arith) f in
-    let o = one-set ls ms p q (omega arith) (omega arith) h k (behind l (closed ls ++ p) (closed ms ++ q) (f ∙ ap (λ (x : List ℕ). x ++ (10 ∷ (closed ms ++ q))) (sym g))) in
+    let o =
+    one-set ls ms p q (omega arith) (omega arith) h k
+    (behind l (closed ls ++ p) (closed ms ++ q) (f ∙ ap (λ (x : List ℕ). x ++ (10 ∷ (closed ms ++ q))) (sym g))) in
     (ap (λ (x : List ℕ). x ∷ ls) g ∙ ap (λ (x : List (List ℕ)). m ∷ x) (o .0), o .1)

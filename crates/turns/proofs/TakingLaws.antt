@@ -6,9 +6,7 @@ use mathlib.Core.List.{List, [], _∷_, _++_}
 use mathlib.Core.Path.{_≡_, refl, sym, _∙_, ap}
 use lib.ListN.{length, take, drop, length-append, take-append-drop}
 use lib.Seq.{take-add, drop-drop}
-use Rattle.parts.specs.declared.step.Step.{Step}
-use Rattle.run.specs.declared.Run.{Run}
-use Rattle.run.specs.declared.Stepped.{Stepped}
+use Rattle.turns.specs.Names.{Run, Step, Stepped}
 use Rattle.run.specs.Lists.{runAll}
 use Rattle.run.specs.Steps.{stepOf}
 use Rattle.run.specs.Undamaged.{undamaged}
@@ -16,7 +14,7 @@ use Rattle.run.proofs.UndamagedLaws.{step-undamaged}
 use Rattle.text.specs.Ends.{breaks, OneRow}
 use Rattle.text.proofs.BreakLaws.{breaks-append, breaks-lf}
 use Rattle.print.specs.Put.{put, Wrote}
-use Rattle.print.specs.Rows.{stepText}
+use Rattle.print.specs.Rows.{stepText, room}
 use Rattle.print.proofs.PutLaws.{put-none, length-put, after}
 use Rattle.turns.specs.Turns.{closed, breaksIn, stepsIn, textAll, Took}
 use Rattle.turns.proofs.LineLaws.{closed-more, unbroken-more, steps-more, steps-length, run-more, text-more}
@@ -31,19 +29,20 @@ pub record Taking (s : List ℕ) (at row : ℕ) (run : Run) (d : List ℕ) (i : 
   pub goes : held ≡ runAll run (stepsIn lines)
   pub next : n ≡ row + length lines
   pub wrote : Wrote d at (textAll row run (stepsIn lines)) e o
-  pub left : o + 69 * breaks (drop i s) ≤ at + 69 * breaks s
+  pub left : o + room * breaks (drop i s) ≤ at + room * breaks s
   pub rows : n + breaks (drop i s) ≤ row + breaks s
   pub sound : undamaged held ≡ true
-  pub fits : at + 69 * breaks s ≤ length d
+  pub fits : at + room * breaks s ≤ length d
   pub counted : row + breaks s < 2 ^ 64
 
 module _ (s : List ℕ) (at row : ℕ) (run : Run) (d : List ℕ) where
-  pub taking-none : at + 69 * breaks s ≤ length d → row + breaks s < 2 ^ 64 → undamaged run ≡ true → Taking s at row run d 0 d at row run
+  pub taking-none : at + room * breaks s ≤ length d → row + breaks s < 2 ^ 64 → undamaged run ≡ true → Taking s at row run d 0 d at row run
   unfolding closed breaksIn stepsIn textAll runAll
   taking-none f c h =
       record { lines = []; within = omega arith; taken = refl; unbroken = refl; same = refl; goes = refl; next = omega arith; wrote = (put-none d at, omega arith); left = omega arith; rows = omega arith; sound = h; fits = f; counted = c }
 
-  pub taking-end : (i : ℕ) (e : List ℕ) (o n : ℕ) (held : Run) → Taking s at row run d i e o n held → breaks (drop i s) ≡ 0 → Took s at row run d e (record { used = i; at = o; row = n; run = held })
+  pub taking-end : (i : ℕ) (e : List ℕ) (o n : ℕ) (held : Run) → Taking s at row run d i e o n held → breaks (drop i s) ≡ 0
+      → Took s at row run d e (record { used = i; at = o; row = n; run = held })
   taking-end i e o n held t none =
       record { lines = t .lines; within = t .within; taken = t .taken; unbroken = t .unbroken; rest = none; says = t .wrote .0; ends = t .wrote .1; goes = t .goes; next = t .next; room = omega (arith, t .left); rows = omega (arith, t .rows); sound = t .sound }
 
@@ -55,14 +54,14 @@ module _ (s : List ℕ) (i j : ℕ) (x : Step) (later : i < j) (within : j ≤ l
   from-there : drop (j - i) (drop i s) ≡ drop j s
   from-there = let e : i + (j - i) ≡ j = omega arith in drop-drop (j - i) i s ∙ ap (λ (n : ℕ). drop n s) e
 
-  pub one-less : breaks (drop i s) ≡ 1 + breaks (drop j s)
+  one-less : breaks (drop i s) ≡ 1 + breaks (drop j s)
   one-less =
       ap breaks (sym (take-append-drop (j - i) (drop i s)))
       ∙ breaks-append (take (j - i) (drop i s)) (drop (j - i) (drop i s))
       ∙ rw (one .ends, breaks-lf (one .line) (one .unbroken), from-there)
 
   module _ (at row : ℕ) (run : Run) (d e : List ℕ) (o n : ℕ) (held : Run) (t : Taking s at row run d i e o n held) where
-    pub taking-room : o + 69 ≤ length e
+    pub taking-room : o + room ≤ length e
     taking-room = let h : breaks (drop i s) ≡ 1 + breaks (drop j s) = one-less in omega (arith, t .left, t .fits, t .same)
 
     pub taking-row : n + 1 < 2 ^ 64
@@ -90,7 +89,8 @@ module _ (s : List ℕ) (i j : ℕ) (x : Step) (later : i < j) (within : j ≤ l
         ∙ ap (λ (k : ℕ). textAll row run (stepsIn (t .lines)) ++ stepText k (stepOf (runAll run (stepsIn (t .lines))) x .answer)) e
         ∙ ap (λ (z : Run). textAll row run (stepsIn (t .lines)) ++ stepText n (stepOf z x .answer)) (sym (t .goes))
 
-    pub taking-next : (f : List ℕ) (q : ℕ) (r : Stepped) → r ≡ stepOf held x → Wrote e o (stepText n (r .answer)) f q → q ≤ o + 69 → Taking s at row run d j f q (n + 1) (r .run)
+    pub taking-next : (f : List ℕ) (q : ℕ) (r : Stepped) → r ≡ stepOf held x → Wrote e o (stepText n (r .answer)) f q → q ≤ o + room
+        → Taking s at row run d j f q (n + 1) (r .run)
     unfolding more
     taking-next f q r re w most =
         let h : breaks (drop i s) ≡ 1 + breaks (drop j s) = one-less in

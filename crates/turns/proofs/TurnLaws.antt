@@ -1,60 +1,28 @@
--- One turn of the loop over whole rows: what each case changes in place is what the step puts back. Assumes nothing.
-use Prim.Native.Nat.{ℕ, zero, suc, _+_, _≤_, _<_}
+-- What the loop over whole rows needs beside the laws of the arms: its own scan for a free slot, and an offer whose record it leaves alone.
+-- Assumes nothing.
+use Prim.Native.Nat.{ℕ, zero, suc, _+_, _≤_}
 use native.Mathlib.Omega.{arith}
-use mathlib.Core.Bool.{true, false}
+use mathlib.Core.Bool.{Bool, true, false, cond}
 use mathlib.Core.List.{List, [], _∷_}
-use mathlib.Core.Path.{_≡_, refl, sym, ap, _∙_}
+use mathlib.Core.Path.{_≡_, refl, ap, _∙_}
 use lib.ListN.{getD, set}
-use borrow.Author.Tests.{lt-leb, le-leb}
-use Rattle.cabinet.specs.declared.entry.Entry.{Entry}
-use Rattle.cabinet.specs.declared.record.Cabinet.{Cabinet}
+use Rattle.turns.specs.Names.{Asked, Back, Body, Cabinet, Entry, Held, Message, Outcome, Run, Sight, Slot, Step}
 use Rattle.cabinet.specs.Cabinets.{presentOf, offered}
 use Rattle.cabinet.specs.Entries.{takes}
-use Rattle.parts.specs.declared.answer.Answer.the-variants.{Accepted}
-use Rattle.parts.specs.declared.answer.Change.the-variants.{OfSlot, Offering}
-use Rattle.parts.specs.declared.answer.Decision.{Decision}
-use Rattle.parts.specs.declared.answer.Decision.the-variants.{No, Yes}
-use Rattle.parts.specs.declared.answer.Outcome.{Outcome}
-use Rattle.parts.specs.declared.answer.Outcome.the-variants.{Sent}
-use Rattle.parts.specs.declared.answer.Refusal.the-variants.{Full, NoMessage}
-use Rattle.parts.specs.declared.message.Held.{Held}
-use Rattle.parts.specs.declared.message.Held.the-variants.{Empty, Request, Reply}
-use Rattle.parts.specs.declared.message.Slot.{Slot}
-use Rattle.parts.specs.declared.step.Asked.{Asked}
-use Rattle.parts.specs.declared.step.Step.{Step}
-use Rattle.parts.specs.Parts.{noCabinet}
-use Rattle.client.specs.Small.{askingAs}
-use Rattle.client.specs.declared.begin.Asking.the-variants.{Puts}
-use Rattle.decide.specs.Cabinets.{deedOf}
-use Rattle.decide.specs.Decide.{losing, losesBy}
-use Rattle.run.specs.declared.Run.{Run}
-use Rattle.run.specs.declared.Stepped.{Stepped}
-use Rattle.run.specs.Gather.{isEmpty}
-use Rattle.run.specs.Steps.{decideOf, doneAt, changed, putBack, stepOf}
-use Rattle.run.specs.Undamaged.{undamaged}
-use Rattle.run.proofs.ArmLaws.{arm}
-use Rattle.run.proofs.MeetLaws.{askedOf}
+use Rattle.types.specs.Parts.{emptySlot, noCabinet, sightOf}
+use Rattle.server.specs.Requests.{replySlot, answersOf, backAs}
+use Rattle.run.specs.Gather.{isEmpty, firstFrom}
+use Rattle.run.specs.Steps.{stepOf}
+use Rattle.run.proofs.ArmLaws.{Admitted, stored, request-weighs}
 
--- what was admitted is r, and the case says that this is a
-pub turn : (run : Run) (x : Step) → undamaged run ≡ true → (r a : Asked) → r ≡ askedOf run x → r ≡ a → (d : Decision) → decideOf run a ≡ d → stepOf run x ≡ putBack run d
-turn run x whole r a e g d h = arm run x whole a (sym g ∙ e) d h
-
--- a send that finds slot j free, and one that finds none
-pub sent-in : (free j : ℕ) (t : Slot) → free ≡ j → j < 64 → askingAs free (Puts t) ≡ Yes (Sent (j + 1)) (OfSlot j t)
-sent-in free j t e h = rw (e, lt-leb _ _ h)
-
-pub sent-nowhere : (free : ℕ) (t : Slot) → 64 ≤ free → askingAs free (Puts t) ≡ No Full
-sent-nowhere free t h = rw (le-leb _ _ h)
-
-pub lost-none : (h : Held) (j : ℕ) → isEmpty h ≡ true → losesBy h j ≡ No NoMessage
-lost-none Empty j e = refl
-lost-none (Request m) j e = absurd (let z : _≡_ {A = ℕ} 0 1 = cc in omega arith)
-lost-none (Reply m) j e = absurd (let z : _≡_ {A = ℕ} 0 1 = cc in omega arith)
-
-pub lost-one : (h : Held) (j : ℕ) → isEmpty h ≡ false → losesBy h j ≡ losing j
-lost-one Empty j e = absurd (let z : _≡_ {A = ℕ} 0 1 = cc in omega arith)
-lost-one (Request m) j e = refl
-lost-one (Reply m) j e = refl
+pub first-least : (l : List Slot) (k : ℕ) → k ≤ firstFrom k l
+unfolding firstFrom
+first-least [] k = omega arith
+first-least (t ∷ l) k = go (isEmpty (t .held)) (first-least l (suc k))
+  where
+    go : (b : Bool) → suc k ≤ firstFrom (suc k) l → k ≤ cond b k (firstFrom (suc k) l)
+    go true q = omega arith
+    go false q = omega (arith, q)
 
 set-self : (l : List Cabinet) (i : ℕ) (d : Cabinet) → set l i (getD l i d) ≡ l
 set-self [] i d = refl
@@ -62,9 +30,11 @@ set-self (x ∷ l) zero d = refl
 set-self (x ∷ l) (suc i) d = ap (λ (z : List Cabinet). x ∷ z) (set-self l i d)
 
 -- an offer that is not taken leaves its record, and all records, as they were
-pub kept-put : (run : Run) (o : Outcome) (p : ℕ) (e : Entry) (j : ℕ) (t : Slot) → takes (presentOf (getD (run .cabinets) p noCabinet)) e ≡ false
-    → _≡_ {A = Stepped}
-    (record { answer = Accepted o; run = record { plan = run .plan; steps = run .steps + 1; cabinets = run .cabinets; clients = run .clients; slots = set (run .slots) j t } })
-    (putBack run (Yes o (Offering p e j t)))
-unfolding changed doneAt deedOf offered
-kept-put run o p e j t f = rw (f, set-self (run .cabinets) p noCabinet)
+module _ {run : Run} {s : Step} (h : Admitted run s) {j : ℕ} (e : h .asked ≡ Asked.Delivers j) {m : Message} (g : getD (run .slots) j emptySlot .held ≡ Held.Request m)
+    {k : Sight} (seen : k ≡ sightOf (getD (run .cabinets) (m .cabinet) noCabinet)) {b : Back} (f : (j₁ : ℕ) → answersOf j₁ m k ≡ backAs j₁ m b) where
+  pub request-keeps : {o : Entry} → b ≡ Back.Weighs o → {t : Slot} → t ≡ replySlot m Body.Acknowledge → takes (k .present) o ≡ false
+      → stepOf run s ≡ stored run (Outcome.Answered (j + 1)) (run .cabinets) (run .clients) (set (run .slots) j t)
+  unfolding offered
+  request-keeps {o} z r q =
+      let kept : takes (presentOf (getD (run .cabinets) (m .cabinet) noCabinet)) o ≡ false = rw seen at q in
+      request-weighs h e g seen f z r {k₁ = getD (run .cabinets) (m .cabinet) noCabinet} (rw kept) ∙ rw (set-self (run .cabinets) (m .cabinet) noCabinet)

@@ -4,8 +4,7 @@ use mathlib.Core.Bool.{true}
 use mathlib.Core.List.{List, [], _∷_, _++_}
 use mathlib.Core.Path.{_≡_}
 use lib.ListN.{length, take, drop}
-use Rattle.parts.specs.declared.step.Step.{Step}
-use Rattle.run.specs.declared.Run.{Run}
+use Rattle.turns.specs.Names.{Run, Step, Went}
 use Rattle.run.specs.Lists.{runAll}
 use Rattle.run.specs.Steps.{stepOf}
 use Rattle.run.specs.Undamaged.{undamaged}
@@ -13,7 +12,6 @@ use Rattle.text.specs.Ends.{unended, breaks, stepIn}
 use Rattle.text.specs.Rows.{rowOf}
 use Rattle.print.specs.Put.{put}
 use Rattle.print.specs.Rows.{stepText, room}
-use Rattle.turns.specs.declared.turn.Went.{Went}
 
 -- lines, each with its LF, whose byte is 10
 unfoldable pub closed : List (List ℕ) → List ℕ

@@ -1,5 +1,6 @@
 // Whole step rows, straight from a part of the input. One function owns the run and changes it in place: to hand it on would copy its five
 // kilobytes at each row. A reached run is undamaged, so that no step is checked again.
+use admit::admit;
 use cabinet::keeps_older;
 use client::Asking;
 use client::Hears;
@@ -8,20 +9,7 @@ use client::asks;
 use client::hear::hear;
 use client::opens;
 use client::quits;
-use decide::Back;
-use decide::admit;
-use decide::answer;
-use decide::forgets;
-use decide::is_down;
-use decide::may_roll;
-use decide::reply;
-use parts::Answer;
-use parts::Asked;
-use parts::Body;
-use parts::Held;
-use parts::Outcome;
-use parts::Refusal;
-use parts::Slot;
+use limits::byte;
 use print::put_answered;
 use print::put_counted;
 use print::put_discarded;
@@ -33,13 +21,25 @@ use run::Run;
 use run::is_empty;
 use run::others_marked;
 use run::sight;
+use server::Back;
+use server::answer;
+use server::forgets;
+use server::is_down;
+use server::may_roll;
+use server::reply;
 use text::find;
+use types::Answer;
+use types::Asked;
+use types::Body;
+use types::Held;
+use types::Outcome;
+use types::Refusal;
+use types::Slot;
 ghost use mathlib.Core.Path.{_≡_};
 ghost use mathlib.Core.Bool.{true};
 ghost use Prim.Native.Nat.{_≤_, _<_, _+_, _*_, _^_};
 ghost use lib.ListN.{length};
-ghost use Rattle.parts.specs.declared.answer.Answer.the-variants.{Refused, Accepted};
-ghost use Rattle.print.specs.Put.{put};
+ghost use Rattle.print.specs.Put.{Wrote};
 ghost use Rattle.print.specs.Rows.{room, stepText};
 ghost use Rattle.run.specs.Undamaged.{undamaged};
 ghost use Rattle.text.specs.Ends.{breaks};
@@ -55,7 +55,7 @@ pub struct Went {
 
 fn refuse(out: &mut [u8], at: usize, row: u64, why: Refusal) -> usize
     requires { ⌜ at + room ≤ length (now out) ⌝ }
-    ensures { λ r. ⌜ (now (out .exit) ≡ put (now (out .entry)) at (stepText row (Refused why))) × (r ≡ at + length (stepText row (Refused why))) ⌝ }
+    ensures { λ r. ⌜ Wrote (now (out .entry)) at (stepText row (Answer.Refused why)) (now (out .exit)) r ⌝ }
     ensures { λ r. ⌜ r ≤ at + room ⌝ }
 {
     put_step(out, at, row, Answer::Refused(why))
@@ -63,7 +63,7 @@ fn refuse(out: &mut [u8], at: usize, row: u64, why: Refusal) -> usize
 
 fn accept(out: &mut [u8], at: usize, row: u64, o: Outcome) -> usize
     requires { ⌜ at + room ≤ length (now out) ⌝ }
-    ensures { λ r. ⌜ (now (out .exit) ≡ put (now (out .entry)) at (stepText row (Accepted o))) × (r ≡ at + length (stepText row (Accepted o))) ⌝ }
+    ensures { λ r. ⌜ Wrote (now (out .entry)) at (stepText row (Answer.Accepted o)) (now (out .exit)) r ⌝ }
     ensures { λ r. ⌜ r ≤ at + room ⌝ }
 {
     put_step(out, at, row, Answer::Accepted(o))
@@ -128,14 +128,14 @@ pub fn steps(s: &[u8], out: &mut [u8], at: usize, row: u64, mut run: Run) -> Wen
                     }
                     Asking::Puts(request) => {
                         let mut j: u8 = 0;
-                        while j < 64 {
+                        while j < byte::MOST_SLOTS {
                             let t = run.slots[j as usize];
                             if is_empty(t) {
                                 break;
                             }
                             j += 1;
                         }
-                        if j < 64 {
+                        if j < byte::MOST_SLOTS {
                             run.slots[j as usize] = request;
                             run.steps = run.steps + 1;
                             o = put_sent(out, o, now, j + 1);

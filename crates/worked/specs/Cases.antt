@@ -2,16 +2,8 @@
 use Prim.Native.Nat.{ℕ}
 use mathlib.Core.Bool.{Bool, true, false}
 use mathlib.Core.List.{List, [], _∷_}
-use Rattle.plan.specs.declared.Plan.{Plan}
-use Rattle.plan.specs.declared.Profile.the-variants.{Forgetful, Store}
-use Rattle.plan.specs.declared.Planned.{Planned}
-use Rattle.plan.specs.declared.Planned.the-variants.{OutOfRange, TooSmall, Accepted}
+use Rattle.worked.specs.Names.{Cabinet, Entry, Planned, Profile, Reading, Stamp}
 use Rattle.plan.specs.Rule.{planOf}
-use Rattle.cabinet.specs.declared.entry.Reading.{Reading}
-use Rattle.cabinet.specs.declared.entry.Reading.the-variants.{Open, Closed}
-use Rattle.cabinet.specs.declared.entry.Stamp.{Stamp}
-use Rattle.cabinet.specs.declared.entry.Entry.{Entry}
-use Rattle.cabinet.specs.declared.record.Cabinet.{Cabinet}
 use Rattle.cabinet.specs.Entries.{laterThan}
 use Rattle.cabinet.specs.Cabinets.{freshCabinet, offered}
 
@@ -42,11 +34,11 @@ having e = offered true e freshCabinet
 -- the document's columns: plan n,k,r,b and its quorums, or the cabinets with a store and the quorums
 abbrev pub forgetfulWith : ℕ → ℕ → ℕ → ℕ → ℕ → ℕ → Planned
 forgetfulWith n k r b write read =
-    Accepted (record { n = n; k = k; r = r; b = b; profile = Forgetful; write = write; read = read; stores = 0 })
+    Planned.Accepted (record { n = n; k = k; r = r; b = b; profile = Profile.Forgetful; write = write; read = read; stores = 0 })
 
 abbrev pub storeWith : ℕ → ℕ → ℕ → ℕ → ℕ → ℕ → ℕ → Planned
 storeWith n k r b stores write read =
-    Accepted (record { n = n; k = k; r = r; b = b; profile = Store; write = write; read = read; stores = stores })
+    Planned.Accepted (record { n = n; k = k; r = r; b = b; profile = Profile.Store; write = write; read = read; stores = stores })
 
 abbrev pub rows : List Row
 rows =
@@ -55,13 +47,13 @@ rows =
     ∷ (plans (planOf 4 1 1 2) ↝ plans (storeWith 4 1 1 2 4 3 3))
     ∷ (plans (planOf 2 0 0 2) ↝ plans (storeWith 2 0 0 2 1 2 2))
     ∷ (plans (planOf 9 4 0 0) ↝ plans (forgetfulWith 9 4 0 0 5 5))
-    ∷ (plans (planOf 3 1 1 1) ↝ plans TooSmall)
-    ∷ (plans (planOf 9 4 4 1) ↝ plans TooSmall)
-    ∷ (plans (planOf 3 1 2 0) ↝ plans OutOfRange)
-    ∷ (plans (planOf 10 1 0 0) ↝ plans OutOfRange)
+    ∷ (plans (planOf 3 1 1 1) ↝ plans Planned.TooSmall)
+    ∷ (plans (planOf 9 4 4 1) ↝ plans Planned.TooSmall)
+    ∷ (plans (planOf 3 1 2 0) ↝ plans Planned.OutOfRange)
+    ∷ (plans (planOf 10 1 0 0) ↝ plans Planned.OutOfRange)
     ∷ (greater (laterThan (stamp 1 2) (stamp 1 1)) ↝ greater true)
     ∷ (greater (laterThan (stamp 2 1) (stamp 1 2)) ↝ greater true)
     ∷ (greater (laterThan (stamp 1 1) (stamp 1 2)) ↝ greater false)
     ∷ (greater (laterThan (stamp 1 2) (stamp 2 1)) ↝ greater false)
-    ∷ (holds (offered true (entry 1 1 Closed) (having (entry 1 1 (Open 6)))) ↝ holds (having (entry 1 1 (Open 6))))
+    ∷ (holds (offered true (entry 1 1 Reading.Closed) (having (entry 1 1 (Reading.Open 6)))) ↝ holds (having (entry 1 1 (Reading.Open 6))))
     ∷ []

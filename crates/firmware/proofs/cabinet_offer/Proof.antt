@@ -5,41 +5,40 @@ use Rattle.firmware.proofs.OfferLaws.{taken, not-taken, taken-length}
 use Rattle.firmware.proofs.cabinet_offer.Statement.{statement}
 use Rattle.firmware.proofs.cabinet_offer.Tie as tie
 
-decode-requires : tie.Need-decode-requires
-decode-requires c κs = search needs
-
-decode-requires-2 : tie.Need-decode-requires-2
-decode-requires-2 c κs = search needs
-
-judge-requires : tie.Need-judge-requires
-judge-requires c κs = search needs
-
 copy-over-requires : tie.Need-copy-over-requires
-copy-over-requires c κs = taken-length _ _ _ _ _ (c .before .before .before .before .decode .ensures) (c .before .before .before .decode2 .ensures) (c .before .before .judge .ensures) (c .before .if1 .taken)
-
-same-length : tie.Need-same-length
-same-length c = search needs
+copy-over-requires c κs =
+    let decode = c .before .before .before .before .decode in
+    let decode2 = c .before .before .before .decode2 in
+    let judge = c .before .before .judge in
+    let if1 = c .before .if1 in
+    taken-length _ _ _ _ _ (decode .ensures) (decode2 .ensures) (judge .ensures) (if1 .taken)
 
 returns : tie.Need-returns
 returns c =
-    let t = taken _ _ _ _ _ (c .before .before .before .before .before .before .before .decode .ensures) (c .before .before .before .before .before .before .decode2 .ensures) (c .before .before .before .before .before .judge .ensures) (c .before .before .before .before .if1 .taken) in
+    let t =
+    let decode = c .before .before .before .before .before .before .before .decode in
+    let decode2 = c .before .before .before .before .before .before .decode2 in
+    let judge = c .before .before .before .before .before .judge in
+    let if1 = c .before .before .before .before .if1 in
+    taken _ _ _ _ _ (decode .ensures) (decode2 .ensures) (judge .ensures) (if1 .taken) in
     (t .0, (c .before .before .copy-over .ensures) ∙ t .1)
 
-same-length-2 : tie.Need-same-length-2
-same-length-2 c = search needs
-
 returns-2 : tie.Need-returns-2
-returns-2 c = not-taken _ _ _ _ _ (c .before .before .before .decode .ensures) (c .before .before .decode2 .ensures) (c .before .judge .ensures) (c .if1 .left)
+returns-2 c =
+    let decode = c .before .before .before .decode in
+    let decode2 = c .before .before .decode2 in
+    let judge = c .before .judge in
+    not-taken _ _ _ _ _ (decode .ensures) (decode2 .ensures) (judge .ensures) (c .if1 .left)
 
 pub cabinet-offer-spec : {M : Type 1} → statement M
 cabinet-offer-spec =
     tie.close
     (tie.spec
-    decode-requires
-    decode-requires-2
-    judge-requires
+    (λ c κs. search needs)
+    (λ c κs. search needs)
+    (λ c κs. search needs)
     copy-over-requires
-    same-length
+    (λ c. search needs)
     returns
-    same-length-2
+    (λ c. search needs)
     returns-2)

@@ -4,22 +4,17 @@ use lib.ListN.{length-replicate}
 use native.Mathlib.Omega.{arith}
 use Prim.Native.Nat.{ℕ}
 use borrow.Author.Needs.{needs}
+use Rattle.stream.specs.Buffers.{outRoom}
 use Rattle.stream.proofs.rehearse.Statement.{statement}
 use Rattle.stream.proofs.rehearse.Tie as tie
 
-slice-aggregate-all-bytes : tie.Need-slice-aggregate-all-bytes
-slice-aggregate-all-bytes c = search needs
-
 slice-aggregate-all-bytes-2 : tie.Need-slice-aggregate-all-bytes-2
-slice-aggregate-all-bytes-2 c = sym (length-replicate {0} {A = ℕ} 2261061 0)
+slice-aggregate-all-bytes-2 c = sym (length-replicate {0} {A = ℕ} outRoom 0)
 
 all-bytes-requires : tie.Need-all-bytes-requires
-all-bytes-requires c κs = (omega arith, length-replicate {0} {A = ℕ} 2261061 0)
-
-returns : tie.Need-returns
-returns c = search needs
+all-bytes-requires c κs = (omega arith, length-replicate {0} {A = ℕ} outRoom 0)
 
 pub rehearse-spec : {M : Type 1} → statement M
 rehearse-spec =
     tie.close
-    (tie.spec slice-aggregate-all-bytes slice-aggregate-all-bytes-2 all-bytes-requires returns)
+    (tie.spec (λ c. search needs) slice-aggregate-all-bytes-2 all-bytes-requires (λ c. search needs))

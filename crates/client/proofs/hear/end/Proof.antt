@@ -5,11 +5,8 @@ use Rattle.client.proofs.HearLaws.{end-is}
 use Rattle.client.proofs.hear.end.Statement.{statement}
 use Rattle.client.proofs.hear.end.Tie as tie
 
-none-requires : tie.Need-none-requires
-none-requires c κs = search needs
-
 returns : tie.Need-returns
 returns c = let a = c .before .args in λ i j. sym (end-is i j (a .operation) (a .how) (a .shown) (a .next) (a .best) _ (c .none .ensures))
 
 pub end-spec : {M : Type 1} → statement M
-end-spec = tie.close (tie.spec none-requires returns)
+end-spec = tie.close (tie.spec (λ c κs. search needs) returns)

@@ -4,11 +4,5 @@ use borrow.Author.Needs.{needs}
 use Rattle.desk.proofs.view.count.Statement.{statement}
 use Rattle.desk.proofs.view.count.Tie as tie
 
-cast-result : tie.Need-cast-result
-cast-result c = search needs
-
-returns : tie.Need-returns
-returns c = search needs
-
 pub count-spec : {M : Type 1} → statement M
-count-spec = tie.close (tie.spec cast-result returns)
+count-spec = tie.close (tie.spec (λ c. search needs) (λ c. search needs))

@@ -5,12 +5,6 @@ use Rattle.desk.proofs.view.with_record.Statement.{statement}
 use Rattle.desk.proofs.view.with_record.Tie as tie
 use Rattle.desk.specs.View.{lentAt}
 
-mul-records : tie.Need-mul-records
-mul-records c = search needs
-
-array-set-from-records : tie.Need-array-set-from-records
-array-set-from-records c = search needs
-
 returns : tie.Need-returns
 unfolding lentAt
 returns c = rw (lt-ltb _ _ (c .if1 .taken))
@@ -20,4 +14,4 @@ unfolding lentAt
 returns-2 c = rw (le-ltb _ _ (c .if1 .left))
 
 pub with-record-spec : {M : Type 1} → statement M
-with-record-spec = tie.close (tie.spec mul-records array-set-from-records returns returns-2)
+with-record-spec = tie.close (tie.spec (λ c. search needs) (λ c. search needs) returns returns-2)

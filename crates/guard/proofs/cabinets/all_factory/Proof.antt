@@ -4,6 +4,7 @@ use borrow.Author.Needs.{needs}
 use lib.ListN.{length, drop}
 use mathlib.Core.Path.{_≡_, refl, sym, _∙_}
 use native.Mathlib.Omega.{arith}
+use Rattle.limits.specs.Limits.{mostVersions}
 use Rattle.guard.proofs.ScanLaws.{all-end, all-stop, all-next}
 use Rattle.guard.proofs.cabinets.all_factory.Statement.{statement}
 use Rattle.guard.proofs.cabinets.all_factory.Tie as tie
@@ -11,28 +12,14 @@ use Rattle.guard.specs.All.{allFrom}
 use Rattle.guard.specs.Damage.{factoryAt}
 
 abbrev Inv-loop : tie.InvT-loop
-Inv-loop versions i₀ i = (i ≤ 8) × (length versions ≡ 8) × (allFrom (factoryAt) 0 versions ≡ allFrom (factoryAt) i (drop i versions))
+Inv-loop versions i₀ i =
+    (i ≤ mostVersions) × (length versions ≡ mostVersions) × (allFrom (factoryAt) 0 versions ≡ allFrom (factoryAt) i (drop i versions))
 
 abbrev μ-loop : tie.MeasureT-loop
-μ-loop versions i₀ i = 8 - i
+μ-loop versions i₀ i = mostVersions - i
 
 loop-holds : tie.Need-loop-holds Inv-loop μ-loop
 loop-holds c = (search needs, search needs, refl)
-
-mul-e : tie.Need-mul-e Inv-loop μ-loop
-mul-e c = search needs
-
-array-copy-out-e : tie.Need-array-copy-out-e Inv-loop μ-loop
-array-copy-out-e c = search needs
-
-is-factory-requires : tie.Need-is-factory-requires Inv-loop μ-loop
-is-factory-requires c κs = search needs
-
-add-i : tie.Need-add-i Inv-loop μ-loop
-add-i c = search needs
-
-loop-less : tie.Need-loop-less Inv-loop μ-loop
-loop-less c = search needs
 
 loop-again : tie.Need-loop-again Inv-loop μ-loop
 loop-again c =
@@ -59,11 +46,11 @@ all-factory-spec =
     Inv-loop
     μ-loop
     loop-holds
-    mul-e
-    array-copy-out-e
-    is-factory-requires
-    add-i
-    loop-less
+    (λ c. search needs)
+    (λ c. search needs)
+    (λ c κs. search needs)
+    (λ c. search needs)
+    (λ c. search needs)
     loop-again
     returns
     returns-2)

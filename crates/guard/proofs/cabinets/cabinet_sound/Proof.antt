@@ -5,21 +5,9 @@ use Rattle.guard.proofs.cabinets.cabinet_sound.Statement.{statement}
 use Rattle.guard.proofs.cabinets.cabinet_sound.Tie as tie
 use Rattle.guard.specs.Damage.{cabinetSound}
 
-cast-if1 : tie.Need-cast-if1
-cast-if1 c = search needs
-
-cast-record-sound : tie.Need-cast-record-sound
-cast-record-sound c = search needs
-
-record-sound-requires : tie.Need-record-sound-requires
-record-sound-requires c κs = search needs
-
 returns : tie.Need-returns
 unfolding cabinetSound
 returns c = simp (lt-ltb _ _ (c .before .before .if1 .taken)) (c .record-sound .ensures)
-
-is-fresh-requires : tie.Need-is-fresh-requires
-is-fresh-requires c κs = search needs
 
 returns-2 : tie.Need-returns-2
 unfolding cabinetSound
@@ -28,4 +16,4 @@ returns-2 c = simp (le-ltb _ _ (c .before .if1 .left)) (c .is-fresh .ensures)
 pub cabinet-sound-spec : {M : Type 1} → statement M
 cabinet-sound-spec =
     tie.close
-    (tie.spec cast-if1 cast-record-sound record-sound-requires returns is-fresh-requires returns-2)
+    (tie.spec (λ c. search needs) (λ c. search needs) (λ c κs. search needs) returns (λ c κs. search needs) returns-2)

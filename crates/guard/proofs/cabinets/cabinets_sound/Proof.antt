@@ -4,6 +4,7 @@ use borrow.Author.Needs.{needs}
 use lib.ListN.{length, drop}
 use mathlib.Core.Path.{_≡_, refl, sym, _∙_}
 use native.Mathlib.Omega.{arith}
+use Rattle.limits.specs.Limits.{mostCabinets}
 use Rattle.guard.proofs.ScanLaws.{all-end, all-stop, all-next}
 use Rattle.guard.proofs.cabinets.cabinets_sound.Statement.{statement}
 use Rattle.guard.proofs.cabinets.cabinets_sound.Tie as tie
@@ -11,28 +12,15 @@ use Rattle.guard.specs.All.{allFrom}
 use Rattle.guard.specs.Damage.{cabinetSound}
 
 abbrev Inv-loop : tie.InvT-loop
-Inv-loop plan steps cabinets i₀ i = (i ≤ 9) × (length cabinets ≡ 9) × (allFrom (cabinetSound plan steps) 0 cabinets ≡ allFrom (cabinetSound plan steps) i (drop i cabinets))
+Inv-loop plan steps cabinets i₀ i =
+    (i ≤ mostCabinets) × (length cabinets ≡ mostCabinets) ×
+    (allFrom (cabinetSound plan steps) 0 cabinets ≡ allFrom (cabinetSound plan steps) i (drop i cabinets))
 
 abbrev μ-loop : tie.MeasureT-loop
-μ-loop plan steps cabinets i₀ i = 9 - i
+μ-loop plan steps cabinets i₀ i = mostCabinets - i
 
 loop-holds : tie.Need-loop-holds Inv-loop μ-loop
 loop-holds c = (search needs, search needs, refl)
-
-mul-k : tie.Need-mul-k Inv-loop μ-loop
-mul-k c = search needs
-
-array-copy-out-k : tie.Need-array-copy-out-k Inv-loop μ-loop
-array-copy-out-k c = search needs
-
-cabinet-sound-requires : tie.Need-cabinet-sound-requires Inv-loop μ-loop
-cabinet-sound-requires c κs = search needs
-
-add-i : tie.Need-add-i Inv-loop μ-loop
-add-i c = search needs
-
-loop-less : tie.Need-loop-less Inv-loop μ-loop
-loop-less c = search needs
 
 loop-again : tie.Need-loop-again Inv-loop μ-loop
 loop-again c =
@@ -44,7 +32,9 @@ returns : tie.Need-returns Inv-loop μ-loop
 returns c =
     let b = c .before .before .before .before in
     let a = b .before .args in
-    all-stop (cabinetSound (a .plan) (a .steps)) (a .t3) (b .loop .i) _ (sym (c .before .cabinet-sound .ensures) ∙ c .if1 .left) (omega arith) ∙ sym (b .loop .inv .2)
+    all-stop (cabinetSound (a .plan) (a .steps)) (a .t3) (b .loop .i) _ (sym (c .before .cabinet-sound .ensures) ∙ c .if1 .left)
+    (omega arith)
+    ∙ sym (b .loop .inv .2)
 
 returns-2 : tie.Need-returns-2 Inv-loop μ-loop
 returns-2 c =
@@ -59,11 +49,11 @@ cabinets-sound-spec =
     Inv-loop
     μ-loop
     loop-holds
-    mul-k
-    array-copy-out-k
-    cabinet-sound-requires
-    add-i
-    loop-less
+    (λ c. search needs)
+    (λ c. search needs)
+    (λ c κs. search needs)
+    (λ c. search needs)
+    (λ c. search needs)
     loop-again
     returns
     returns-2)

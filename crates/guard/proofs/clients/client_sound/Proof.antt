@@ -6,15 +6,13 @@ use Rattle.guard.proofs.clients.client_sound.Statement.{statement}
 use Rattle.guard.proofs.clients.client_sound.Tie as tie
 use Rattle.guard.specs.Damage.{clientSound}
 
-entry-sound-requires : tie.Need-entry-sound-requires
-entry-sound-requires c κs = search needs
-
-work-sound-requires : tie.Need-work-sound-requires
-work-sound-requires c κs = search needs
-
 returns : tie.Need-returns
 unfolding clientSound
-returns c = simp (le-leb _ _ (c .before .before .before .if1 .taken), sym (c .before .before .entry-sound .ensures) ∙ c .before .if2 .taken) (c .work-sound .ensures)
+returns c =
+    let if1 = c .before .before .before .if1 in
+    let entry-sound = c .before .before .entry-sound in
+    let if2 = c .before .if2 in
+    simp (le-leb _ _ (if1 .taken), sym (entry-sound .ensures) ∙ if2 .taken) (c .work-sound .ensures)
 
 returns-2 : tie.Need-returns-2
 unfolding clientSound
@@ -26,4 +24,4 @@ returns-3 c = simp (lt-leb _ _ (c .if1 .left))
 
 pub client-sound-spec : {M : Type 1} → statement M
 client-sound-spec =
-    tie.close (tie.spec entry-sound-requires work-sound-requires returns returns-2 returns-3)
+    tie.close (tie.spec (λ c κs. search needs) (λ c κs. search needs) returns returns-2 returns-3)

@@ -4,6 +4,7 @@ use borrow.Author.Needs.{needs}
 use lib.ListN.{length, drop}
 use mathlib.Core.Path.{_≡_, refl, sym, _∙_}
 use native.Mathlib.Omega.{arith}
+use Rattle.limits.specs.Limits.{mostClients}
 use Rattle.guard.proofs.ScanLaws.{all-end, all-stop, all-next}
 use Rattle.guard.proofs.clients.clients_sound.Statement.{statement}
 use Rattle.guard.proofs.clients.clients_sound.Tie as tie
@@ -11,28 +12,15 @@ use Rattle.guard.specs.All.{allFrom}
 use Rattle.guard.specs.Damage.{clientSound}
 
 abbrev Inv-loop : tie.InvT-loop
-Inv-loop plan steps clients i₀ i = (i ≤ 8) × (length clients ≡ 8) × (allFrom (clientSound plan steps) 0 clients ≡ allFrom (clientSound plan steps) i (drop i clients))
+Inv-loop plan steps clients i₀ i =
+    (i ≤ mostClients) × (length clients ≡ mostClients) ×
+    (allFrom (clientSound plan steps) 0 clients ≡ allFrom (clientSound plan steps) i (drop i clients))
 
 abbrev μ-loop : tie.MeasureT-loop
-μ-loop plan steps clients i₀ i = 8 - i
+μ-loop plan steps clients i₀ i = mostClients - i
 
 loop-holds : tie.Need-loop-holds Inv-loop μ-loop
 loop-holds c = (search needs, search needs, refl)
-
-mul-c : tie.Need-mul-c Inv-loop μ-loop
-mul-c c = search needs
-
-array-copy-out-c : tie.Need-array-copy-out-c Inv-loop μ-loop
-array-copy-out-c c = search needs
-
-client-sound-requires : tie.Need-client-sound-requires Inv-loop μ-loop
-client-sound-requires c κs = search needs
-
-add-i : tie.Need-add-i Inv-loop μ-loop
-add-i c = search needs
-
-loop-less : tie.Need-loop-less Inv-loop μ-loop
-loop-less c = search needs
 
 loop-again : tie.Need-loop-again Inv-loop μ-loop
 unfolding clientSound
@@ -46,7 +34,8 @@ unfolding clientSound
 returns c =
     let b = c .before .before .before .before in
     let a = b .before .args in
-    all-stop (clientSound (a .plan) (a .steps)) (a .t3) (b .loop .i) _ (sym (c .before .client-sound .ensures) ∙ c .if1 .left) (omega arith) ∙ sym (b .loop .inv .2)
+    all-stop (clientSound (a .plan) (a .steps)) (a .t3) (b .loop .i) _ (sym (c .before .client-sound .ensures) ∙ c .if1 .left) (omega arith)
+    ∙ sym (b .loop .inv .2)
 
 returns-2 : tie.Need-returns-2 Inv-loop μ-loop
 returns-2 c =
@@ -61,11 +50,11 @@ clients-sound-spec =
     Inv-loop
     μ-loop
     loop-holds
-    mul-c
-    array-copy-out-c
-    client-sound-requires
-    add-i
-    loop-less
+    (λ c. search needs)
+    (λ c. search needs)
+    (λ c κs. search needs)
+    (λ c. search needs)
+    (λ c. search needs)
     loop-again
     returns
     returns-2)

@@ -5,12 +5,6 @@ use Rattle.guard.proofs.clients.heard_sound.Statement.{statement}
 use Rattle.guard.proofs.clients.heard_sound.Tie as tie
 use Rattle.guard.specs.Damage.{heardSound}
 
-within-requires : tie.Need-within-requires
-within-requires c κs = search needs
-
-count-requires : tie.Need-count-requires
-count-requires c κs = search needs
-
 returns : tie.Need-returns
 unfolding heardSound
 returns c = simp (sym (c .before .before .within .ensures) ∙ c .before .if1 .taken, c .count .ensures)
@@ -20,4 +14,4 @@ unfolding heardSound
 returns-2 c = simp (sym (c .before .within .ensures) ∙ c .if1 .left)
 
 pub heard-sound-spec : {M : Type 1} → statement M
-heard-sound-spec = tie.close (tie.spec within-requires count-requires returns returns-2)
+heard-sound-spec = tie.close (tie.spec (λ c κs. search needs) (λ c κs. search needs) returns returns-2)

@@ -5,12 +5,6 @@ use Rattle.guard.proofs.entries.entry_sound.Statement.{statement}
 use Rattle.guard.proofs.entries.entry_sound.Tie as tie
 use Rattle.guard.specs.Damage.{entrySound}
 
-stamp-sound-requires : tie.Need-stamp-sound-requires
-stamp-sound-requires c κs = search needs
-
-in-range-requires : tie.Need-in-range-requires
-in-range-requires c κs = search needs
-
 returns : tie.Need-returns
 unfolding entrySound
 returns c = simp (sym (c .before .before .stamp-sound .ensures) ∙ c .before .if1 .taken) (c .in-range .ensures)
@@ -20,4 +14,4 @@ unfolding entrySound
 returns-2 c = simp (sym (c .before .stamp-sound .ensures) ∙ c .if1 .left)
 
 pub entry-sound-spec : {M : Type 1} → statement M
-entry-sound-spec = tie.close (tie.spec stamp-sound-requires in-range-requires returns returns-2)
+entry-sound-spec = tie.close (tie.spec (λ c κs. search needs) (λ c κs. search needs) returns returns-2)

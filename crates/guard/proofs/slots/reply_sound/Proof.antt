@@ -5,15 +5,9 @@ use Rattle.guard.proofs.slots.reply_sound.Statement.{statement}
 use Rattle.guard.proofs.slots.reply_sound.Tie as tie
 use Rattle.guard.specs.Damage.{replySound}
 
-reply-first-requires : tie.Need-reply-first-requires
-reply-first-requires c κs = search needs
-
 returns : tie.Need-returns
 unfolding replySound
 returns c = simp (eq-eqb _ _ (c .before .if1 .taken)) (c .reply-first .ensures)
-
-reply-second-requires : tie.Need-reply-second-requires
-reply-second-requires c κs = search needs
 
 returns-2 : tie.Need-returns-2
 unfolding replySound
@@ -25,4 +19,4 @@ returns-3 c = simp (ne-eqb _ _ (c .before .if1 .left), ne-eqb _ _ (c .if2 .left)
 
 pub reply-sound-spec : {M : Type 1} → statement M
 reply-sound-spec =
-    tie.close (tie.spec reply-first-requires returns reply-second-requires returns-2 returns-3)
+    tie.close (tie.spec (λ c κs. search needs) returns (λ c κs. search needs) returns-2 returns-3)

@@ -5,15 +5,9 @@ use Rattle.guard.proofs.slots.request_sound.Statement.{statement}
 use Rattle.guard.proofs.slots.request_sound.Tie as tie
 use Rattle.guard.specs.Damage.{requestSound}
 
-request-first-requires : tie.Need-request-first-requires
-request-first-requires c κs = search needs
-
 returns : tie.Need-returns
 unfolding requestSound
 returns c = simp (eq-eqb _ _ (c .before .if1 .taken)) (c .request-first .ensures)
-
-request-second-requires : tie.Need-request-second-requires
-request-second-requires c κs = search needs
 
 returns-2 : tie.Need-returns-2
 unfolding requestSound
@@ -25,4 +19,4 @@ returns-3 c = simp (ne-eqb _ _ (c .before .if1 .left), ne-eqb _ _ (c .if2 .left)
 
 pub request-sound-spec : {M : Type 1} → statement M
 request-sound-spec =
-    tie.close (tie.spec request-first-requires returns request-second-requires returns-2 returns-3)
+    tie.close (tie.spec (λ c κs. search needs) returns (λ c κs. search needs) returns-2 returns-3)

@@ -5,34 +5,17 @@ use Rattle.guard.proofs.slots.slot_sound.Statement.{statement}
 use Rattle.guard.proofs.slots.slot_sound.Tie as tie
 use Rattle.guard.specs.Damage.{slotSound}
 
-enum-told : tie.Need-enum-told
-enum-told c = search needs
-
-enum-known-h : tie.Need-enum-known-h
-enum-known-h c = search needs
-
-address-sound-requires : tie.Need-address-sound-requires
-address-sound-requires c κs = search needs
-
-request-sound-requires : tie.Need-request-sound-requires
-request-sound-requires c κs = search needs
-
-enum-known-h-2 : tie.Need-enum-known-h-2
-enum-known-h-2 c = search needs
-
-address-sound-requires-2 : tie.Need-address-sound-requires-2
-address-sound-requires-2 c κs = search needs
-
-reply-sound-requires : tie.Need-reply-sound-requires
-reply-sound-requires c κs = search needs
-
 returns : tie.Need-returns
 unfolding slotSound
 returns c = simp (c .enum-told .given .1)
 
 returns-2 : tie.Need-returns-2
 unfolding slotSound
-returns-2 c = simp (c .before .before .before .before .h .given .1, sym (c .before .before .address-sound .ensures) ∙ c .before .if1 .taken) (c .request-sound .ensures)
+returns-2 c =
+    let h = c .before .before .before .before .h in
+    let address-sound = c .before .before .address-sound in
+    let if1 = c .before .if1 in
+    simp (h .given .1, sym (address-sound .ensures) ∙ if1 .taken) (c .request-sound .ensures)
 
 returns-3 : tie.Need-returns-3
 unfolding slotSound
@@ -40,7 +23,11 @@ returns-3 c = simp (c .before .before .before .h .given .1, sym (c .before .addr
 
 returns-4 : tie.Need-returns-4
 unfolding slotSound
-returns-4 c = simp (c .before .before .before .before .h2 .given .1, sym (c .before .before .address-sound2 .ensures) ∙ c .before .if2 .taken) (c .reply-sound .ensures)
+returns-4 c =
+    let h2 = c .before .before .before .before .h2 in
+    let address-sound2 = c .before .before .address-sound2 in
+    let if2 = c .before .if2 in
+    simp (h2 .given .1, sym (address-sound2 .ensures) ∙ if2 .taken) (c .reply-sound .ensures)
 
 returns-5 : tie.Need-returns-5
 unfolding slotSound
@@ -50,13 +37,13 @@ pub slot-sound-spec : {M : Type 1} → statement M
 slot-sound-spec =
     tie.close
     (tie.spec
-    enum-told
-    enum-known-h
-    address-sound-requires
-    request-sound-requires
-    enum-known-h-2
-    address-sound-requires-2
-    reply-sound-requires
+    (λ c. search needs)
+    (λ c. search needs)
+    (λ c κs. search needs)
+    (λ c κs. search needs)
+    (λ c. search needs)
+    (λ c κs. search needs)
+    (λ c κs. search needs)
     returns
     returns-2
     returns-3

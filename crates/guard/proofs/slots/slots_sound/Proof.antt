@@ -4,6 +4,7 @@ use borrow.Author.Needs.{needs}
 use lib.ListN.{length, drop}
 use mathlib.Core.Path.{_≡_, refl, sym, _∙_}
 use native.Mathlib.Omega.{arith}
+use Rattle.limits.specs.Limits.{mostSlots}
 use Rattle.guard.proofs.ScanLaws.{all-end, all-stop, all-next}
 use Rattle.guard.proofs.slots.slots_sound.Statement.{statement}
 use Rattle.guard.proofs.slots.slots_sound.Tie as tie
@@ -11,28 +12,14 @@ use Rattle.guard.specs.All.{allFrom}
 use Rattle.guard.specs.Damage.{slotSound}
 
 abbrev Inv-loop : tie.InvT-loop
-Inv-loop n steps slots j₀ j = (j ≤ 64) × (length slots ≡ 64) × (allFrom (slotSound n steps) 0 slots ≡ allFrom (slotSound n steps) j (drop j slots))
+Inv-loop n steps slots j₀ j =
+    (j ≤ mostSlots) × (length slots ≡ mostSlots) × (allFrom (slotSound n steps) 0 slots ≡ allFrom (slotSound n steps) j (drop j slots))
 
 abbrev μ-loop : tie.MeasureT-loop
-μ-loop n steps slots j₀ j = 64 - j
+μ-loop n steps slots j₀ j = mostSlots - j
 
 loop-holds : tie.Need-loop-holds Inv-loop μ-loop
 loop-holds c = (search needs, search needs, refl)
-
-mul-t : tie.Need-mul-t Inv-loop μ-loop
-mul-t c = search needs
-
-array-copy-out-t : tie.Need-array-copy-out-t Inv-loop μ-loop
-array-copy-out-t c = search needs
-
-slot-sound-requires : tie.Need-slot-sound-requires Inv-loop μ-loop
-slot-sound-requires c κs = search needs
-
-add-j : tie.Need-add-j Inv-loop μ-loop
-add-j c = search needs
-
-loop-less : tie.Need-loop-less Inv-loop μ-loop
-loop-less c = search needs
 
 loop-again : tie.Need-loop-again Inv-loop μ-loop
 unfolding slotSound
@@ -46,7 +33,8 @@ unfolding slotSound
 returns c =
     let b = c .before .before .before .before in
     let a = b .before .args in
-    all-stop (slotSound (a .n) (a .steps)) (a .t3) (b .loop .j) _ (sym (c .before .slot-sound .ensures) ∙ c .if1 .left) (omega arith) ∙ sym (b .loop .inv .2)
+    all-stop (slotSound (a .n) (a .steps)) (a .t3) (b .loop .j) _ (sym (c .before .slot-sound .ensures) ∙ c .if1 .left) (omega arith)
+    ∙ sym (b .loop .inv .2)
 
 returns-2 : tie.Need-returns-2 Inv-loop μ-loop
 returns-2 c =
@@ -61,11 +49,11 @@ slots-sound-spec =
     Inv-loop
     μ-loop
     loop-holds
-    mul-t
-    array-copy-out-t
-    slot-sound-requires
-    add-j
-    loop-less
+    (λ c. search needs)
+    (λ c. search needs)
+    (λ c κs. search needs)
+    (λ c. search needs)
+    (λ c. search needs)
     loop-again
     returns
     returns-2)

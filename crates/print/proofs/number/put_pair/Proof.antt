@@ -5,17 +5,11 @@ use Rattle.print.proofs.PutLaws.{after}
 use Rattle.print.proofs.number.put_pair.Statement.{statement}
 use Rattle.print.proofs.number.put_pair.Tie as tie
 
-put-digit-requires : tie.Need-put-digit-requires
-put-digit-requires c κs = search needs
-
-put-digit-requires-2 : tie.Need-put-digit-requires-2
-put-digit-requires-2 c κs = search needs
-
-same-length : tie.Need-same-length
-same-length c = search needs
-
 returns : tie.Need-returns
-returns c = after _ _ _ (c .before .before .before .before .before .before .put-digit .ensures) (c .before .before .put-digit2 .ensures) (omega arith)
+returns c =
+    let put-digit = c .before .before .before .before .before .before .put-digit in
+    let put-digit2 = c .before .before .put-digit2 in
+    after _ _ _ (put-digit .ensures) (put-digit2 .ensures) (omega arith)
 
 pub put-pair-spec : {M : Type 1} → statement M
-put-pair-spec = tie.close (tie.spec put-digit-requires put-digit-requires-2 same-length returns)
+put-pair-spec = tie.close (tie.spec (λ c κs. search needs) (λ c κs. search needs) (λ c. search needs) returns)

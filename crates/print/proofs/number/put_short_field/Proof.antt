@@ -5,18 +5,12 @@ use Rattle.print.proofs.PutLaws.{after}
 use Rattle.print.proofs.number.put_short_field.Statement.{statement}
 use Rattle.print.proofs.number.put_short_field.Tie as tie
 
-put-byte-requires : tie.Need-put-byte-requires
-put-byte-requires c κs = search needs
-
-put-up-to-three-requires : tie.Need-put-up-to-three-requires
-put-up-to-three-requires c κs = search needs
-
-same-length : tie.Need-same-length
-same-length c = search needs
-
 returns : tie.Need-returns
-returns c = (after _ _ _ (c .before .before .before .before .before .before .put-byte .ensures) (c .before .before .put-up-to-three .ensures .0) (omega arith), omega arith)
+returns c =
+    let put-byte = c .before .before .before .before .before .before .put-byte in
+    let put-up-to-three = c .before .before .put-up-to-three in
+    (after _ _ _ (put-byte .ensures) (put-up-to-three .ensures .0) (omega arith), omega arith)
 
 pub put-short-field-spec : {M : Type 1} → statement M
 put-short-field-spec =
-    tie.close (tie.spec put-byte-requires put-up-to-three-requires same-length returns)
+    tie.close (tie.spec (λ c κs. search needs) (λ c κs. search needs) (λ c. search needs) returns)

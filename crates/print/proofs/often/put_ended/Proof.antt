@@ -6,22 +6,14 @@ use Rattle.print.proofs.often.put_ended.Tie as tie
 use borrow.Author.Needs.{needs}
 use native.Mathlib.Omega.{arith}
 
-put-number-requires : tie.Need-put-number-requires
-put-number-requires c κs = search needs
-
-put-ending-requires : tie.Need-put-ending-requires
-put-ending-requires c κs = search needs
-
-put-entry-requires : tie.Need-put-entry-requires
-put-entry-requires c κs = search needs
-
-same-length : tie.Need-same-length
-same-length c = search needs
-
 returns : tie.Need-returns
-returns c = (same _ _ (step-accepted _ _) (after _ _ _ (c .before .before .before .before .before .before .before .before .before .before .put-number .ensures .0) (after _ _ _ (c .before .before .before .before .before .before .put-ending .ensures .0) (c .before .before .put-entry .ensures .0) (omega arith)) (omega arith)), omega arith)
+returns c =
+    let put-number = c .before .before .before .before .before .before .before .before .before .before .put-number in
+    let put-ending = c .before .before .before .before .before .before .put-ending in
+    let put-entry = c .before .before .put-entry in
+    (same _ _ (step-accepted _ _) (after _ _ _ (put-number .ensures .0) (after _ _ _ (put-ending .ensures .0) (put-entry .ensures .0) (omega arith)) (omega arith)), omega arith)
 
 pub put-ended-spec : {M : Type 1} → statement M
 put-ended-spec =
     tie.close
-    (tie.spec put-number-requires put-ending-requires put-entry-requires same-length returns)
+    (tie.spec (λ c κs. search needs) (λ c κs. search needs) (λ c κs. search needs) (λ c. search needs) returns)

@@ -6,22 +6,13 @@ use Rattle.print.proofs.often.put_sent.Tie as tie
 use borrow.Author.Needs.{needs}
 use native.Mathlib.Omega.{arith}
 
-put-number-requires : tie.Need-put-number-requires
-put-number-requires c κs = search needs
-
-slice-aggregate-put-slot : tie.Need-slice-aggregate-put-slot
-slice-aggregate-put-slot c = search needs
-
-put-slot-requires : tie.Need-put-slot-requires
-put-slot-requires c κs = search needs
-
-same-length : tie.Need-same-length
-same-length c = search needs
-
 returns : tie.Need-returns
-returns c = (same _ _ (step-accepted _ _) (after _ _ _ (c .before .before .before .before .before .before .before .put-number .ensures .0) (c .before .before .put-slot .ensures .0) (omega arith)), omega arith)
+returns c =
+    let put-number = c .before .before .before .before .before .before .before .put-number in
+    let put-slot = c .before .before .put-slot in
+    (same _ _ (step-accepted _ _) (after _ _ _ (put-number .ensures .0) (put-slot .ensures .0) (omega arith)), omega arith)
 
 pub put-sent-spec : {M : Type 1} → statement M
 put-sent-spec =
     tie.close
-    (tie.spec put-number-requires slice-aggregate-put-slot put-slot-requires same-length returns)
+    (tie.spec (λ c κs. search needs) (λ c. search needs) (λ c κs. search needs) (λ c. search needs) returns)

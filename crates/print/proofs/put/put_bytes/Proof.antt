@@ -17,32 +17,19 @@ abbrev μ-loop : tie.MeasureT-loop
 loop-holds : tie.Need-loop-holds Inv-loop μ-loop
 loop-holds c = (omega arith, refl, (c .pre), paste-zero (c .args .buf .now) (c .args .at) (c .args .s .now))
 
-shared-slice-read-buf : tie.Need-shared-slice-read-buf Inv-loop μ-loop
-shared-slice-read-buf c = omega arith
-
-add-buf : tie.Need-add-buf Inv-loop μ-loop
-add-buf c = omega arith
-
-slice-write-buf : tie.Need-slice-write-buf Inv-loop μ-loop
-slice-write-buf c = omega arith
-
-add-i : tie.Need-add-i Inv-loop μ-loop
-add-i c = omega arith
-
-loop-less : tie.Need-loop-less Inv-loop μ-loop
-loop-less c = omega arith
-
 loop-again : tie.Need-loop-again Inv-loop μ-loop
-loop-again c = let v = (c .before .before .loop .inv) in (omega arith, simp length-set (v .1), v .2, copy-one _ _ _ _ _ (v .3) (omega arith) (c .before .loop-test .taken))
-
-add-result : tie.Need-add-result Inv-loop μ-loop
-add-result c = omega arith
-
-same-length : tie.Need-same-length Inv-loop μ-loop
-same-length c = omega arith
+loop-again c =
+    let loop = c .before .before .loop in
+    let loop-test = c .before .loop-test in
+    let v = (loop .inv) in
+    (omega arith, simp length-set (v .1), v .2, copy-one _ _ _ _ _ (v .3) (omega arith) (loop-test .taken))
 
 returns : tie.Need-returns Inv-loop μ-loop
-returns c = let v = (c .before .loop .inv) in let e : (c .before .loop .i) ≡ length (c .before .before .args .s .now) = omega arith in (v .3 ∙ copy-all _ _ _ _ e, omega arith)
+returns c =
+    let loop = c .before .loop in
+    let v = (loop .inv) in
+    let e : (c .before .loop .i) ≡ length (c .before .before .args .s .now) = omega arith in
+    (v .3 ∙ copy-all _ _ _ _ e, omega arith)
 
 pub put-bytes-spec : {M : Type 1} → statement M
 put-bytes-spec =
@@ -51,12 +38,12 @@ put-bytes-spec =
     Inv-loop
     μ-loop
     loop-holds
-    shared-slice-read-buf
-    add-buf
-    slice-write-buf
-    add-i
-    loop-less
+    (λ c. omega arith)
+    (λ c. omega arith)
+    (λ c. omega arith)
+    (λ c. omega arith)
+    (λ c. omega arith)
     loop-again
-    add-result
-    same-length
+    (λ c. omega arith)
+    (λ c. omega arith)
     returns)

@@ -6,18 +6,12 @@ use Rattle.print.proofs.RowLaws.{no-header}
 use Rattle.print.proofs.row.put_no_header.Statement.{statement}
 use Rattle.print.proofs.row.put_no_header.Tie as tie
 
-put-number-requires : tie.Need-put-number-requires
-put-number-requires c κs = search needs
-
-put-refused-requires : tie.Need-put-refused-requires
-put-refused-requires c κs = search needs
-
-same-length : tie.Need-same-length
-same-length c = search needs
-
 returns : tie.Need-returns
-returns c = (same _ _ no-header (after _ _ _ (c .before .before .before .before .before .before .put-number .ensures .0) (c .before .before .put-refused .ensures .0) (omega arith)), omega arith)
+returns c =
+    let put-number = c .before .before .before .before .before .before .put-number in
+    let put-refused = c .before .before .put-refused in
+    (same _ _ no-header (after _ _ _ (put-number .ensures .0) (put-refused .ensures .0) (omega arith)), omega arith)
 
 pub put-no-header-spec : {M : Type 1} → statement M
 put-no-header-spec =
-    tie.close (tie.spec put-number-requires put-refused-requires same-length returns)
+    tie.close (tie.spec (λ c κs. search needs) (λ c κs. search needs) (λ c. search needs) returns)

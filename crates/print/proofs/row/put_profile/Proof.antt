@@ -4,32 +4,8 @@ use native.Mathlib.Omega.{arith}
 use Rattle.print.proofs.row.put_profile.Statement.{statement}
 use Rattle.print.proofs.row.put_profile.Tie as tie
 
-enum-told : tie.Need-enum-told
-enum-told c = search needs
-
-slice-aggregate-put-bytes : tie.Need-slice-aggregate-put-bytes
-slice-aggregate-put-bytes c = search needs
-
-put-bytes-requires : tie.Need-put-bytes-requires
-put-bytes-requires c κs = search needs
-
-enum-told-2 : tie.Need-enum-told-2
-enum-told-2 c = search needs
-
-slice-aggregate-put-bytes-2 : tie.Need-slice-aggregate-put-bytes-2
-slice-aggregate-put-bytes-2 c = search needs
-
-put-bytes-requires-2 : tie.Need-put-bytes-requires-2
-put-bytes-requires-2 c κs = search needs
-
-same-length : tie.Need-same-length
-same-length c = search needs
-
 returns : tie.Need-returns
 returns c = (rw (c .before .before .before .before .before .enum-told .given .1) (c .before .before .put-bytes .ensures), omega arith)
-
-same-length-2 : tie.Need-same-length-2
-same-length-2 c = search needs
 
 returns-2 : tie.Need-returns-2
 returns-2 c = (rw (c .before .before .before .before .before .enum-told2 .given .1) (c .before .before .put-bytes2 .ensures), omega arith)
@@ -38,13 +14,13 @@ pub put-profile-spec : {M : Type 1} → statement M
 put-profile-spec =
     tie.close
     (tie.spec
-    enum-told
-    slice-aggregate-put-bytes
-    put-bytes-requires
-    enum-told-2
-    slice-aggregate-put-bytes-2
-    put-bytes-requires-2
-    same-length
+    (λ c. search needs)
+    (λ c. search needs)
+    (λ c κs. search needs)
+    (λ c. search needs)
+    (λ c. search needs)
+    (λ c κs. search needs)
+    (λ c. search needs)
     returns
-    same-length-2
+    (λ c. search needs)
     returns-2)

@@ -4,55 +4,42 @@ use Rattle.run.proofs.StartLaws.{start-is}
 use Rattle.run.proofs.fresh.start.Statement.{statement}
 use Rattle.run.proofs.fresh.start.Tie as tie
 
-choose-requires : tie.Need-choose-requires
-choose-requires c κs = search needs
-
 enum-told : tie.Need-enum-told
 enum-told c = search needs
 
-smallest-requires : tie.Need-smallest-requires
-smallest-requires c κs = search needs
-
-fresh-run-requires : tie.Need-fresh-run-requires
-fresh-run-requires c κs = search needs
-
-enum-told-2 : tie.Need-enum-told-2
-enum-told-2 c = search needs
-
-smallest-requires-2 : tie.Need-smallest-requires-2
-smallest-requires-2 c κs = search needs
-
-fresh-run-requires-2 : tie.Need-fresh-run-requires-2
-fresh-run-requires-2 c κs = search needs
-
-enum-known-planned : tie.Need-enum-known-planned
-enum-known-planned c = search needs
-
-fresh-run-requires-3 : tie.Need-fresh-run-requires-3
-fresh-run-requires-3 c κs = search needs
-
 returns : tie.Need-returns
-returns c = simp ((c .before .smallest .ensures), (c .fresh-run .ensures)) (start-is _ _ _ _ _ _ (c .before .before .before .before .choose .ensures) (c .before .before .enum-told .given .1))
+returns c =
+    let smallest = c .before .smallest in
+    let choose = c .before .before .before .before .choose in
+    let enum-told = c .before .before .enum-told in
+    simp ((smallest .ensures), (c .fresh-run .ensures)) (start-is _ _ _ _ _ _ (choose .ensures) (enum-told .given .1))
 
 returns-2 : tie.Need-returns-2
-returns-2 c = simp ((c .before .smallest2 .ensures), (c .fresh-run2 .ensures)) (start-is _ _ _ _ _ _ (c .before .before .before .before .choose .ensures) (c .before .before .enum-told2 .given .1))
+returns-2 c =
+    let smallest2 = c .before .smallest2 in
+    let choose = c .before .before .before .before .choose in
+    let enum-told2 = c .before .before .enum-told2 in
+    simp ((smallest2 .ensures), (c .fresh-run2 .ensures)) (start-is _ _ _ _ _ _ (choose .ensures) (enum-told2 .given .1))
 
 returns-3 : tie.Need-returns-3
-returns-3 c = simp (c .fresh-run3 .ensures) (start-is _ _ _ _ _ _ (c .before .before .before .before .choose .ensures) (c .before .before .planned .given .1))
+returns-3 c =
+    let choose = c .before .before .before .before .choose in
+    let planned = c .before .before .planned in
+    simp (c .fresh-run3 .ensures) (start-is _ _ _ _ _ _ (choose .ensures) (planned .given .1))
 
 pub start-spec : {M : Type 1} → statement M
 start-spec =
     tie.close
     (tie.spec
-    choose-requires
+    (λ c κs. search needs)
     enum-told
-    smallest-requires
-    fresh-run-requires
-    enum-told-2
-    smallest-requires-2
-    fresh-run-requires-2
-    enum-known-planned
-    fresh-run-requires-3
+    (λ c κs. search needs)
+    (λ c κs. search needs)
+    (λ c. search needs)
+    (λ c κs. search needs)
+    (λ c κs. search needs)
+    (λ c. search needs)
+    (λ c κs. search needs)
     returns
     returns-2
     returns-3)

@@ -4,41 +4,25 @@ use borrow.Author.Needs.{needs}
 use lib.ListN.{length, drop}
 use mathlib.Core.Path.{_≡_, sym, _∙_}
 use native.Mathlib.Omega.{arith}
+use Rattle.limits.specs.Limits.{mostSlots}
 use Rattle.run.proofs.GatherLaws.{first-end, first-here, first-next}
 use Rattle.run.proofs.gather.first_free.Statement.{statement}
 use Rattle.run.proofs.gather.first_free.Tie as tie
 use Rattle.run.specs.Gather.{firstFrom}
 
 abbrev Inv-loop : tie.InvT-loop
-Inv-loop slots j₀ j = (j ≤ 64) × (length slots ≡ 64) × (firstFrom 0 slots ≡ firstFrom j (drop j slots))
+Inv-loop slots j₀ j = (j ≤ mostSlots) × (length slots ≡ mostSlots) × (firstFrom 0 slots ≡ firstFrom j (drop j slots))
 
 abbrev μ-loop : tie.MeasureT-loop
-μ-loop slots j₀ j = 64 - j
-
-loop-holds : tie.Need-loop-holds Inv-loop μ-loop
-loop-holds c = search needs
-
-cast-t : tie.Need-cast-t Inv-loop μ-loop
-cast-t c = search needs
-
-mul-t : tie.Need-mul-t Inv-loop μ-loop
-mul-t c = search needs
-
-array-copy-out-t : tie.Need-array-copy-out-t Inv-loop μ-loop
-array-copy-out-t c = search needs
-
-is-empty-requires : tie.Need-is-empty-requires Inv-loop μ-loop
-is-empty-requires c κs = search needs
-
-add-j : tie.Need-add-j Inv-loop μ-loop
-add-j c = search needs
-
-loop-less : tie.Need-loop-less Inv-loop μ-loop
-loop-less c = search needs
+μ-loop slots j₀ j = mostSlots - j
 
 loop-again : tie.Need-loop-again Inv-loop μ-loop
 loop-again c =
-    let more = first-next (c .before .before .before .before .before .args .t1) (c .before .before .before .before .loop .j) (c .before .before .before .before .loop .j) (sym (c .before .is-empty .ensures) ∙ (c .if2 .left)) in
+    let more =
+    let args = c .before .before .before .before .before .args in
+    let loop = c .before .before .before .before .loop in
+    let is-empty = c .before .is-empty in
+    first-next (args .t1) (loop .j) (loop .j) (sym (is-empty .ensures) ∙ (c .if2 .left)) in
     (omega arith, (c .before .before .before .before .loop .inv .1), (c .before .before .before .before .loop .inv .2) ∙ more)
 
 returns : tie.Need-returns Inv-loop μ-loop
@@ -48,7 +32,11 @@ returns c =
 
 returns-2 : tie.Need-returns-2 Inv-loop μ-loop
 returns-2 c =
-    let here = first-here (c .before .before .before .before .before .args .t1) (c .before .before .before .before .loop .j) (c .before .before .before .before .loop .j) (sym (c .before .is-empty .ensures) ∙ (c .if2 .taken)) in
+    let here =
+    let args = c .before .before .before .before .before .args in
+    let loop = c .before .before .before .before .loop in
+    let is-empty = c .before .is-empty in
+    first-here (args .t1) (loop .j) (loop .j) (sym (is-empty .ensures) ∙ (c .if2 .taken)) in
     sym ((c .before .before .before .before .loop .inv .2) ∙ here)
 
 pub first-free-spec : {M : Type 1} → statement M
@@ -57,13 +45,13 @@ first-free-spec =
     (tie.spec
     Inv-loop
     μ-loop
-    loop-holds
-    cast-t
-    mul-t
-    array-copy-out-t
-    is-empty-requires
-    add-j
-    loop-less
+    (λ c. search needs)
+    (λ c. search needs)
+    (λ c. search needs)
+    (λ c. search needs)
+    (λ c κs. search needs)
+    (λ c. search needs)
+    (λ c. search needs)
     loop-again
     returns
     returns-2)

@@ -5,38 +5,19 @@ use lib.ListN.{length, drop}
 use mathlib.Core.Logic.{⊎-elim}
 use mathlib.Core.Path.{_≡_, sym, _∙_}
 use native.Mathlib.Omega.{arith}
-use Rattle.parts.specs.Parts.{noCabinet}
+use Rattle.limits.specs.Limits.{mostCabinets}
+use Rattle.types.specs.Parts.{noCabinet}
 use Rattle.run.proofs.GatherLaws.{others-end, others-more, others-same}
 use Rattle.run.proofs.gather.others_marked.Statement.{statement}
 use Rattle.run.proofs.gather.others_marked.Tie as tie
 use Rattle.run.specs.Gather.{othersFrom}
 
 abbrev Inv-loop : tie.InvT-loop
-Inv-loop p cabinets n₀ i₀ n i = (i ≤ 9) × (length cabinets ≡ 9) × (n ≤ i) × (n + othersFrom p i (drop i cabinets) ≡ othersFrom p 0 cabinets)
+Inv-loop p cabinets n₀ i₀ n i =
+    (i ≤ mostCabinets) × (length cabinets ≡ mostCabinets) × (n ≤ i) × (n + othersFrom p i (drop i cabinets) ≡ othersFrom p 0 cabinets)
 
 abbrev μ-loop : tie.MeasureT-loop
-μ-loop p cabinets n₀ i₀ n i = 9 - i
-
-loop-holds : tie.Need-loop-holds Inv-loop μ-loop
-loop-holds c = search needs
-
-mul-k : tie.Need-mul-k Inv-loop μ-loop
-mul-k c = search needs
-
-array-copy-out-k : tie.Need-array-copy-out-k Inv-loop μ-loop
-array-copy-out-k c = search needs
-
-counts-requires : tie.Need-counts-requires Inv-loop μ-loop
-counts-requires c κs = search needs
-
-add-n : tie.Need-add-n Inv-loop μ-loop
-add-n c = search needs
-
-add-i : tie.Need-add-i Inv-loop μ-loop
-add-i c = search needs
-
-loop-less : tie.Need-loop-less Inv-loop μ-loop
-loop-less c = search needs
+μ-loop p cabinets n₀ i₀ n i = mostCabinets - i
 
 loop-again : tie.Need-loop-again Inv-loop μ-loop
 loop-again c =
@@ -59,12 +40,12 @@ others-marked-spec =
     (tie.spec
     Inv-loop
     μ-loop
-    loop-holds
-    mul-k
-    array-copy-out-k
-    counts-requires
-    add-n
-    add-i
-    loop-less
+    (λ c. search needs)
+    (λ c. search needs)
+    (λ c. search needs)
+    (λ c κs. search needs)
+    (λ c. search needs)
+    (λ c. search needs)
+    (λ c. search needs)
     loop-again
     returns)

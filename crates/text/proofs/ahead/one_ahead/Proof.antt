@@ -11,37 +11,34 @@ use Rattle.text.proofs.ahead.one_ahead.Tie as tie
 use Rattle.text.specs.Ends.{Leads}
 use Rattle.text.specs.Pieces.{numberAt}
 use Rattle.text.specs.Rows.{oneStep}
-use Rattle.text.specs.declared.field.Number.the-variants.{Value}
+use Rattle.text.specs.Names.{Number}
 
 -- what `number_at` told, in the arm where it found a number
-told : (c : tie.After-a) → numberAt (from (c .before .before .before .before .before .args .s .now) (c .before .before .before .before .before .args .from)) ≡ Value (c .a .given .0 .0) (c .a .given .0 .1 .0)
+told : (c : tie.After-a)
+    → numberAt (from (c .before .before .before .before .before .args .s .now) (c .before .before .before .before .before .args .from)) ≡
+    Number.Value (c .a .given .0 .0) (c .a .given .0 .1 .0)
 told c = sym (c .before .before .number-at .ensures) ∙ c .a .given .1
 
-fits : (c : tie.After-a) → c .before .before .before .before .before .args .from + c .a .given .0 .1 .0 ≤ length (c .before .before .before .before .before .args .s .now)
+fits : (c : tie.After-a)
+    → c .before .before .before .before .before .args .from + c .a .given .0 .1 .0 ≤ length
+    (c .before .before .before .before .before .args .s .now)
 fits c = one-fits _ _ _ _ _ (c .before .before .before .before .before .pre) (told c)
 
 -- the row, in the arm where it ends in its commas and LF
-row : (c : tie.After-one-step) → Leads (c .before .before .before .before .before .before .before .before .before .before .before .before .args .s .now) (oneStep (c .before .before .before .before .before .before .before .before .before .before .before .before .args .k) (c .before .before .before .before .before .before .before .a .given .0 .0)) (c .before .before .before .before .before .before .before .before .before .before .before .before .args .from + c .before .before .before .before .before .before .before .a .given .0 .1 .0 + 4)
+row : (c : tie.After-one-step)
+    → Leads (c .before .before .before .before .before .before .before .before .before .before .before .before .args .s .now)
+    (oneStep (c .before .before .before .before .before .before .before .before .before .before .before .before .args .k) (c .before .before .before .before .before .before .before .a .given .0 .0))
+    (c .before .before .before .before .before .before .before .before .before .before .before .before .args .from + c .before .before .before .before .before .before .before .a .given .0 .1 .0 + 4)
 row c =
-    one-leads _ _ _ _ _ (c .before .before .before .before .before .before .before .before .before .before .before .before .pre) (told (c .before .before .before .before .before .before .before)) (c .before .before .before .before .before .if1 .left) (sym (c .before .before .begins .ensures) ∙ c .before .if2 .taken)
+    one-leads _ _ _ _ _ (c .before .before .before .before .before .before .before .before .before .before .before .before .pre)
+    (told (c .before .before .before .before .before .before .before)) (c .before .before .before .before .before .if1 .left)
+    (sym (c .before .before .begins .ensures) ∙ c .before .if2 .taken)
 
 sub-number-at : tie.Need-sub-number-at
 sub-number-at c = word-fits _ _ _ (c .before .pre)
 
 part-number-at-start : tie.Need-part-number-at-start
 part-number-at-start c = word-fits _ _ _ (c .before .pre)
-
-part-number-at-end : tie.Need-part-number-at-end
-part-number-at-end c = search needs
-
-number-at-requires : tie.Need-number-at-requires
-number-at-requires c κs = search needs
-
-enum-told : tie.Need-enum-told
-enum-told c = search needs
-
-enum-known-a : tie.Need-enum-known-a
-enum-known-a c = search needs
 
 returns : tie.Need-returns
 returns c = unclear _
@@ -54,21 +51,6 @@ sub-begins c = omega (arith, fits (c .before .before))
 
 part-begins-start : tie.Need-part-begins-start
 part-begins-start c = omega (arith, fits (c .before .before))
-
-part-begins-end : tie.Need-part-begins-end
-part-begins-end c = search needs
-
-slice-aggregate-begins : tie.Need-slice-aggregate-begins
-slice-aggregate-begins c = search needs
-
-begins-requires : tie.Need-begins-requires
-begins-requires c κs = search needs
-
-cast-one-step : tie.Need-cast-one-step
-cast-one-step c = search needs
-
-one-step-requires : tie.Need-one-step-requires
-one-step-requires c κs = search needs
 
 add-t24 : tie.Need-add-t24
 add-t24 c = omega (arith, row c .within)
@@ -91,19 +73,19 @@ one-ahead-spec =
     (tie.spec
     sub-number-at
     part-number-at-start
-    part-number-at-end
-    number-at-requires
-    enum-told
-    enum-known-a
+    (λ c. search needs)
+    (λ c κs. search needs)
+    (λ c. search needs)
+    (λ c. search needs)
     returns
     add-begins
     sub-begins
     part-begins-start
-    part-begins-end
-    slice-aggregate-begins
-    begins-requires
-    cast-one-step
-    one-step-requires
+    (λ c. search needs)
+    (λ c. search needs)
+    (λ c κs. search needs)
+    (λ c. search needs)
+    (λ c κs. search needs)
     add-t24
     add-t25
     returns-2

@@ -11,37 +11,35 @@ use Rattle.text.proofs.ahead.two_ahead.Tie as tie
 use Rattle.text.specs.Ends.{Leads}
 use Rattle.text.specs.Pieces.{pairAt}
 use Rattle.text.specs.Rows.{twoStep}
-use Rattle.text.specs.declared.field.Pair.the-variants.{Values}
+use Rattle.text.specs.Names.{Pair}
 
 -- what `pair_at` told, in the arm where it found two numbers
-told : (c : tie.After-a) → pairAt (from (c .before .before .before .before .before .args .s .now) (c .before .before .before .before .before .args .from)) ≡ Values (c .a .given .0 .0) (c .a .given .0 .1 .0) (c .a .given .0 .1 .1 .0)
+told : (c : tie.After-a)
+    → pairAt (from (c .before .before .before .before .before .args .s .now) (c .before .before .before .before .before .args .from)) ≡
+    Pair.Values (c .a .given .0 .0) (c .a .given .0 .1 .0) (c .a .given .0 .1 .1 .0)
 told c = sym (c .before .before .pair-at .ensures) ∙ c .a .given .1
 
-fits : (c : tie.After-a) → c .before .before .before .before .before .args .from + c .a .given .0 .1 .1 .0 ≤ length (c .before .before .before .before .before .args .s .now)
+fits : (c : tie.After-a)
+    → c .before .before .before .before .before .args .from + c .a .given .0 .1 .1 .0 ≤ length
+    (c .before .before .before .before .before .args .s .now)
 fits c = two-fits _ _ _ _ _ _ (c .before .before .before .before .before .pre) (told c)
 
 -- the row, in the arm where it ends in its commas and LF
-row : (c : tie.After-two-step) → Leads (c .before .before .before .before .before .before .before .before .before .before .before .before .before .args .s .now) (twoStep (c .before .before .before .before .before .before .before .before .before .before .before .before .before .args .k) (c .before .before .before .before .before .before .before .before .a .given .0 .0) (c .before .before .before .before .before .before .before .before .a .given .0 .1 .0)) (c .before .before .before .before .before .before .before .before .before .before .before .before .before .args .from + c .before .before .before .before .before .before .before .before .a .given .0 .1 .1 .0 + 3)
+row : (c : tie.After-two-step)
+    → Leads (c .before .before .before .before .before .before .before .before .before .before .before .before .before .args .s .now)
+    (twoStep (c .before .before .before .before .before .before .before .before .before .before .before .before .before .args .k) (c .before .before .before .before .before .before .before .before .a .given .0 .0) (c .before .before .before .before .before .before .before .before .a .given .0 .1 .0))
+    (c .before .before .before .before .before .before .before .before .before .before .before .before .before .args .from + c .before .before .before .before .before .before .before .before .a .given .0 .1 .1 .0 + 3)
 row c =
-    two-leads _ _ _ _ _ _ (c .before .before .before .before .before .before .before .before .before .before .before .before .before .pre) (told (c .before .before .before .before .before .before .before .before)) (c .before .before .before .before .before .before .if1 .left) (c .before .before .before .before .before .if2 .left) (sym (c .before .before .begins .ensures) ∙ c .before .if3 .taken)
+    two-leads _ _ _ _ _ _ (c .before .before .before .before .before .before .before .before .before .before .before .before .before .pre)
+    (told (c .before .before .before .before .before .before .before .before))
+    (c .before .before .before .before .before .before .if1 .left) (c .before .before .before .before .before .if2 .left)
+    (sym (c .before .before .begins .ensures) ∙ c .before .if3 .taken)
 
 sub-pair-at : tie.Need-sub-pair-at
 sub-pair-at c = word-fits _ _ _ (c .before .pre)
 
 part-pair-at-start : tie.Need-part-pair-at-start
 part-pair-at-start c = word-fits _ _ _ (c .before .pre)
-
-part-pair-at-end : tie.Need-part-pair-at-end
-part-pair-at-end c = search needs
-
-pair-at-requires : tie.Need-pair-at-requires
-pair-at-requires c κs = search needs
-
-enum-told : tie.Need-enum-told
-enum-told c = search needs
-
-enum-known-a : tie.Need-enum-known-a
-enum-known-a c = search needs
 
 returns : tie.Need-returns
 returns c = unclear _
@@ -57,24 +55,6 @@ sub-begins c = omega (arith, fits (c .before .before .before))
 
 part-begins-start : tie.Need-part-begins-start
 part-begins-start c = omega (arith, fits (c .before .before .before))
-
-part-begins-end : tie.Need-part-begins-end
-part-begins-end c = search needs
-
-slice-aggregate-begins : tie.Need-slice-aggregate-begins
-slice-aggregate-begins c = search needs
-
-begins-requires : tie.Need-begins-requires
-begins-requires c κs = search needs
-
-cast-two-step : tie.Need-cast-two-step
-cast-two-step c = search needs
-
-cast-two-step-2 : tie.Need-cast-two-step-2
-cast-two-step-2 c = search needs
-
-two-step-requires : tie.Need-two-step-requires
-two-step-requires c κs = search needs
 
 add-t26 : tie.Need-add-t26
 add-t26 c = omega (arith, row c .within)
@@ -97,21 +77,21 @@ two-ahead-spec =
     (tie.spec
     sub-pair-at
     part-pair-at-start
-    part-pair-at-end
-    pair-at-requires
-    enum-told
-    enum-known-a
+    (λ c. search needs)
+    (λ c κs. search needs)
+    (λ c. search needs)
+    (λ c. search needs)
     returns
     returns-2
     add-begins
     sub-begins
     part-begins-start
-    part-begins-end
-    slice-aggregate-begins
-    begins-requires
-    cast-two-step
-    cast-two-step-2
-    two-step-requires
+    (λ c. search needs)
+    (λ c. search needs)
+    (λ c κs. search needs)
+    (λ c. search needs)
+    (λ c. search needs)
+    (λ c κs. search needs)
     add-t26
     add-t27
     returns-3

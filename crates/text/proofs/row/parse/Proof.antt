@@ -8,20 +8,11 @@ use Rattle.text.proofs.row.parse.Tie as tie
 returns : tie.Need-returns
 returns c = row-long _ (c .if1 .taken)
 
-head-of-requires : tie.Need-head-of-requires
-head-of-requires c κs = search needs
-
 sub-row-as : tie.Need-sub-row-as
 sub-row-as c = row-fits _ _ (c .head-of .ensures)
 
 part-row-as-start : tie.Need-part-row-as-start
 part-row-as-start c = row-fits _ _ (c .head-of .ensures)
-
-part-row-as-end : tie.Need-part-row-as-end
-part-row-as-end c = search needs
-
-row-as-requires : tie.Need-row-as-requires
-row-as-requires c κs = search needs
 
 returns-2 : tie.Need-returns-2
 returns-2 c = c .row-as .ensures ∙ row-is _ _ (c .before .before .head-of .ensures) (c .before .before .before .if1 .left)
@@ -31,9 +22,9 @@ parse-spec =
     tie.close
     (tie.spec
     returns
-    head-of-requires
+    (λ c κs. search needs)
     sub-row-as
     part-row-as-start
-    part-row-as-end
-    row-as-requires
+    (λ c. search needs)
+    (λ c κs. search needs)
     returns-2)

@@ -1,17 +1,15 @@
 -- What `steps` keeps from row to row, and what each turn needs of the place behind admission, which every way through the loop passes. Assumes nothing.
 use Prim.Native.Nat.{ℕ, _+_, _-_, _≤_, _<_}
-use Rattle.parts.specs.declared.answer.Decision.{Decision}
-use Rattle.parts.specs.declared.step.Asked.{Asked}
-use Rattle.parts.specs.declared.step.Step.{Step}
+use Rattle.limits.specs.Limits.{mostSlots, mostSteps}
+use Rattle.turns.specs.Names.{Run, Step, Stepped}
 use Rattle.print.specs.Put.{Wrote}
-use Rattle.print.specs.Rows.{stepText}
+use Rattle.print.specs.Rows.{stepText, room}
+use Rattle.run.proofs.ArmLaws.{Admitted}
+use Rattle.run.proofs.FitLaws.{steps-most}
 use Rattle.run.specs.Gather.{firstFrom}
-use Rattle.run.specs.Steps.{decideOf, putBack, stepOf}
+use Rattle.run.specs.Steps.{stepOf}
 use Rattle.run.specs.Undamaged.{undamaged}
-use Rattle.run.specs.declared.Run.{Run}
-use Rattle.run.specs.declared.Stepped.{Stepped}
 use Rattle.turns.proofs.TakingLaws.{Taking, taking-room, taking-next}
-use Rattle.turns.proofs.TurnLaws.{turn}
 use Rattle.turns.proofs.turn.steps.Tie as tie
 use lib.ListN.{length, drop}
 use mathlib.Core.Bool.{true}
@@ -20,10 +18,10 @@ use mathlib.Core.Path.{_≡_, sym}
 use native.Mathlib.Omega.{arith}
 
 abbrev pub Inv-loop2 : tie.InvT-loop2
-Inv-loop2 s out at row run i o n now c p request j₀ j = (j ≤ 64) × (firstFrom 0 (run .slots) ≡ firstFrom j (drop j (run .slots)))
+Inv-loop2 s out at row run i o n now c p request j₀ j = (j ≤ mostSlots) × (firstFrom 0 (run .slots) ≡ firstFrom j (drop j (run .slots)))
 
 abbrev pub μ-loop2 : tie.MeasureT-loop2
-μ-loop2 s out at row run i o n now c p request j₀ j = 64 - j
+μ-loop2 s out at row run i o n now c p request j₀ j = mostSlots - j
 
 abbrev pub Inv-loop : tie.InvT-loop
 Inv-loop s out₀ at row run₀ i₀ o₀ n₀ out run i o n = Taking s at row run₀ out₀ i out o n run
@@ -65,20 +63,27 @@ pub shorter : (h : Here) → length (call h .args .s .now) - finds h .find .resu
 shorter h = omega (arith, later h, within h)
 
 -- an answer has room
-pub room : (h : Here) → turns h .loop .o + 69 ≤ length (turns h .loop .out)
-room h =
-    taking-room (call h .args .s .now) (turns h .loop .i) (finds h .find .result .end) (asks h) (later h) (within h) (finds h .find .ensures .1 .1 (later h))
-    (call h .args .at) (call h .args .row) (call h .args .t5) (call h .args .out .now) (turns h .loop .out) (turns h .loop .o) (turns h .loop .n) (held h) (turns h .loop .inv)
+pub has-room : (h : Here) → turns h .loop .o + room ≤ length (turns h .loop .out)
+has-room h =
+    taking-room (call h .args .s .now) (turns h .loop .i) (finds h .find .result .end) (asks h) (later h) (within h)
+    (finds h .find .ensures .1 .1 (later h))
+    (call h .args .at) (call h .args .row) (call h .args .t5) (call h .args .out .now) (turns h .loop .out) (turns h .loop .o)
+    (turns h .loop .n) (held h) (turns h .loop .inv)
 
--- what the step makes of the run, by what was admitted
-pub admitted : (h : Here) (a : Asked) → h .admit .result ≡ a → (d : Decision) → decideOf (held h) a ≡ d → stepOf (held h) (asks h) ≡ putBack (held h) d
-admitted h a e d f = turn (held h) (asks h) (sound h) (h .admit .result) a (h .admit .ensures) e d f
+abbrev pub here : (h : Here) → Admitted (held h) (asks h)
+here h = record { whole = sound h; asked = h .admit .result; by = h .admit .ensures }
+
+pub most : (h : Here) → held h .steps ≤ mostSteps
+most h = steps-most (held h) (sound h)
 
 -- what holds between two rows holds again
 pub next : (h : Here) (f : List ℕ) (q : ℕ) (r : Stepped) → stepOf (held h) (asks h) ≡ r
-    → Wrote (turns h .loop .out) (turns h .loop .o) (stepText (turns h .loop .n) (r .answer)) f q → q ≤ turns h .loop .o + 69
-    → Taking (call h .args .s .now) (call h .args .at) (call h .args .row) (call h .args .t5) (call h .args .out .now) (finds h .find .result .end) f q (turns h .loop .n + 1) (r .run)
+    → Wrote (turns h .loop .out) (turns h .loop .o) (stepText (turns h .loop .n) (r .answer)) f q → q ≤ turns h .loop .o + room
+    → Taking (call h .args .s .now) (call h .args .at) (call h .args .row) (call h .args .t5) (call h .args .out .now)
+    (finds h .find .result .end) f q (turns h .loop .n + 1) (r .run)
 next h f q r e w most =
-    taking-next (call h .args .s .now) (turns h .loop .i) (finds h .find .result .end) (asks h) (later h) (within h) (finds h .find .ensures .1 .1 (later h))
-    (call h .args .at) (call h .args .row) (call h .args .t5) (call h .args .out .now) (turns h .loop .out) (turns h .loop .o) (turns h .loop .n) (held h) (turns h .loop .inv)
+    taking-next (call h .args .s .now) (turns h .loop .i) (finds h .find .result .end) (asks h) (later h) (within h)
+    (finds h .find .ensures .1 .1 (later h))
+    (call h .args .at) (call h .args .row) (call h .args .t5) (call h .args .out .now) (turns h .loop .out) (turns h .loop .o)
+    (turns h .loop .n) (held h) (turns h .loop .inv)
     f q r (sym e) w most

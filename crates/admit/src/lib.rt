@@ -1,0 +1,4 @@
+// Which steps are let in.
+mod admission;
+
+pub use admission::admit;

@@ -1,0 +1,3 @@
+pub mod Deeds
+pub mod Names
+pub mod Requests
