@@ -1,16 +1,22 @@
-"""The rows of a list, each beside the row that the transcript has for it."""
+"""The rows of a list, each beside the row that its transcript has for it, read one after another."""
 
 import collections
+import itertools
 
 HEADER = 'row,answer,outcome,slot,counter,writer,entry'
 
-# step has the fields of the list's row, and entry is an Entry or None.
+# step has the fields of the list's row, answer and slot are text as in the transcript, entry is an Entry or None.
 Row = collections.namedtuple('Row', 'number step answer outcome slot entry')
 
 
 class Entry(collections.namedtuple('Entry', 'counter writer reading')):
+    __slots__ = ()
+
     def __str__(self):
         return f'({self.counter},{self.writer}) {self.reading}'
+
+    def stamp(self):
+        return f'({self.counter},{self.writer})'
 
     def look(self):
         """open, closed or unknown."""
@@ -21,25 +27,55 @@ class NoPicture(Exception):
     """Why there is nothing to draw."""
 
 
-def row(step, said):
-    number, answer, outcome, slot, counter, writer, reading = said.split(',')
-    entry = Entry(int(counter), int(writer), reading) if reading else None
-    return Row(int(number), step.removesuffix('\r').split(','), answer, outcome, slot, entry)
+class Astray(NoPicture):
+    """The transcript says what cannot be."""
+
+    def __init__(self, why):
+        super().__init__(f'the transcript is not that of the list: {why}')
 
 
-def paired(steps, transcript, most):
-    """The rows from the plan on, no more than most. Only a line feed ends a row, and the last may lack it."""
-    steps, said = (text.removesuffix('\n').split('\n') for text in (steps, transcript))
-    if said == [HEADER]:
+def opened(path):
+    """Only a line feed ends a row, and any byte may stand in one."""
+    return open(path, encoding='latin-1', newline='\n')
+
+
+def check_planned(transcript):
+    """There is nothing to draw where the list has no plan that was accepted."""
+    with opened(transcript) as lines:
+        header, planned = (line.removesuffix('\n') for line in itertools.islice(itertools.chain(lines, ['', '']), 2))
+    if header != HEADER:
+        raise Astray('it begins otherwise')
+    if not planned:
         raise NoPicture('the list has no plan row')
-    if len(said) - 1 > most:
-        raise NoPicture(f'the list has {len(said) - 1} rows, and a picture at most {most}; this draws the first of'
-                        f' them: head -n {most + 1} LIST.csv | ./rehearse --picture')
-    rows = [row(step, line) for step, line in zip(steps[1:] or [''], said[1:])]
-    if rows[0].answer == '13':
+    answer = planned.split(',')[1:2]
+    if answer == ['13']:
         raise NoPicture('the header row is missing or different (answer 13)')
-    if rows[0].answer != '0':
-        raise NoPicture(f'the plan is refused (answer {rows[0].answer})')
-    if said[0] != HEADER or len(steps) != len(said) or [row.number for row in rows] != list(range(1, len(said))):
-        raise ValueError('these are not the rows of one list')
-    return rows
+    if answer != ['0']:
+        raise NoPicture(f'the plan is refused (answer {"".join(answer)})')
+
+
+def count(transcript):
+    """How many rows it has after its header."""
+    with opened(transcript) as lines:
+        return sum(1 for _ in lines) - 1
+
+
+def row(number, step, said):
+    try:
+        told, answer, outcome, slot, counter, writer, reading = said.removesuffix('\n').split(',')
+        entry = Entry(int(counter), int(writer), reading) if reading else None
+    except ValueError:
+        raise Astray(f'row {number} is not one of a transcript')
+    if told != str(number):
+        raise Astray(f'row {number} has another number')
+    return Row(number, step.removesuffix('\n').removesuffix('\r').split(','), answer, outcome, slot, entry)
+
+
+def rows(steps, transcript):
+    """From the plan on."""
+    with opened(steps) as steps, opened(transcript) as said:
+        pairs = itertools.islice(itertools.zip_longest(steps, said), 1, None)
+        for number, (step, line) in enumerate(pairs, 1):
+            if step is None or line is None:
+                raise Astray(f'only one of the two has a row {number}')
+            yield row(number, step, line)

@@ -1,105 +1,181 @@
-"""What happened in a run, as its list and transcript tell it: messages, spans of a lane, labels at a lane.
+"""What a picture shows of a run, from one row to another: arrows, stretches of a lane, labels at a lane.
 
-Nothing is worked out here that the two do not say. A send shows its slot; whether it asks or offers goes by the last
-outcome of its client, and what it offers stood beside that outcome. A lane is ('client', 3) or ('cabinet', 2).
+It is told row by row, after the run has followed the row. A lane is ('client', 3) or ('cabinet', 2). What was under way
+when the story begins comes in at its top, and what is under way when it ends goes out at its foot.
 """
 
-import dataclasses
+import collections
+
+from looks import body_look, cabinet_look, cabinet_standing, client_look, client_standing, told_look
+from words import row_words
+
+BAND = 50  # rows from one band of lane names to the next; it says again what each lane holds
+
+Label = collections.namedtuple('Label', 'row lane look text pair')  # pair: the row in which the message was sent
+Span = collections.namedtuple('Span', 'lane began ended look')
+Line = collections.namedtuple('Line', 'number pair words')  # a row of the list
 
 
-@dataclasses.dataclass
-class Message:
-    client: tuple
-    cabinet: tuple
-    slot: str
-    entry: tuple  # what is offered; None where the cabinet is asked
-    reply: bool
-    began: int
-    ended: int = None
-    fate: str = 'underway'
+class Arrow:
+    """A message on its way. began and ended may lie before and after what is shown."""
+
+    def __init__(self, message):
+        self.message, self.began, self.ended, self.fate = message, message.began, None, 'underway'
+        self.body = body_look(message)
 
 
 class Story:
-    def __init__(self, rows):
-        self.cabinets, self.end = int(rows[0].step[1]), rows[-1].number + 1
-        self.clients, self.messages, self.refused = set(), [], []
-        self.spans, self.labels = [], []  # (lane, first row, last row, look), (row, lane, look, text)
-        self.air = {}  # slot: the message in it
-        self.offer = {}  # client: what its second part offers, None in the first part
-        self.newest = {}  # cabinet: the newest entry it acknowledged, since a restart or rollback if there was one
+    def __init__(self, run, first, last):
+        self.run, self.first, self.last = run, first, last
+        self.clients, self.arrows, self.spans, self.labels = set(), [], [], []
+        self.lines, self.refusals = [], []
+        self.bands = {}  # row: {lane: two lines of words}, what stands there before the row
+        self.air = {}  # slot: the arrow in it
         self.now = {}  # lane: since which row, and its look
-        message, part, fault = self.end_message, self.end_part, self.fault
-        by_outcome = {'refused': self.refused.append, 'begun': self.begin, 'sent': self.send, 'answered': self.answer,
-                      'unanswered': message, 'lost': message, 'counted': message, 'discarded': message,
-                      'chosen': part, 'found': part, 'written': part, 'read': part,
-                      'left': fault, 'stopped': fault, 'restarted': fault, 'rolled back': fault}
-        for row in rows[1:]:
-            by_outcome[row.outcome](row)
+        self.marked = {}  # cabinet's lane: since which row
+        self.tell = {'refused': self.refused, 'begun': self.begun, 'sent': self.sent, 'answered': self.answered,
+                     'unanswered': self.unanswered, 'lost': self.lost, 'discarded': self.discarded,
+                     'counted': self.counted, 'left': self.left, 'stopped': self.fault, 'restarted': self.fault,
+                     'rolled back': self.fault, 'forgetful': self.planned, 'store': self.planned}
+        self.tell |= dict.fromkeys(['chosen', 'found', 'written', 'read'], self.part_ended)
+
+    def before(self, number):
+        """What stands there before a row is followed."""
+        if number == self.first:
+            self.come_in()
+        if self.first <= number <= self.last and (number - self.first) % BAND == 0:
+            self.bands[number] = dict(self.standing())
+
+    def after(self, row, message):
+        """A row that has been followed, and the message that came to its end with it, or None."""
+        if row.number > self.last:
+            self.ended_later(row)
+        elif row.number >= self.first:
+            self.tell[row.outcome](row, message)
+            pair = message.sent if message else row.number if row.outcome == 'sent' else None
+            self.lines.append(Line(row.number, pair, row_words(row)))
+
+    def close(self):
+        """After the last row."""
+        end = self.last + 1
         for lane in list(self.now):
-            self.turn(lane, self.end, None)
+            self.turn(lane, end, None)
+        self.spans = [span for span in self.spans if span.lane[0] == 'cabinet' or span.lane[1] in self.clients]
+        self.spans += [Span(lane, began, end, 'mark') for lane, began in self.marked.items()]
+
+    def come_in(self):
+        """Open operations, messages on the air, and what each cabinet holds when the story begins."""
+        for place, client in self.run.clients.items():
+            if client.kind:
+                self.clients.add(place)
+            if client.kind or client.left:
+                self.now['client', place] = self.first, client_look(client)
+        for message in self.run.air.values():
+            self.clients.add(message.client)
+            self.launch(message)
+        for place, cabinet in self.run.cabinets.items():
+            self.now['cabinet', place] = self.first, cabinet_look(cabinet)
+            if cabinet.marked:
+                self.marked['cabinet', place] = self.first
+
+    def standing(self):
+        for place, client in self.run.clients.items():
+            yield ('client', place), client_standing(client, self.run.plan)
+        for place, cabinet in self.run.cabinets.items():
+            yield ('cabinet', place), cabinet_standing(cabinet)
 
     def turn(self, lane, row, look):
         """The lane looks so from this row on."""
         if lane in self.now:
             since, before = self.now.pop(lane)
-            self.spans.append((lane, since, row, before))
+            self.spans.append(Span(lane, since, row, before))
         if look:
             self.now[lane] = row, look
 
-    def label(self, row, lane, look, text):
-        self.labels.append((row.number, lane, look, text))
+    def turn_cabinet(self, row, place):
+        self.turn(('cabinet', place), row.number, cabinet_look(self.run.cabinets[place]))
+
+    def label(self, row, lane, look, text, message=None):
+        self.labels.append(Label(row.number, lane, look, text, message.sent if message else None))
 
     def client(self, row):
         self.clients.add(int(row.step[1]))
         return 'client', int(row.step[1])
 
-    def begin(self, row):
-        client = self.client(row)
-        self.offer[client] = None
-        self.turn(client, row.number, 'asking')
-        self.label(row, client, 'begun', f'begun: {" ".join(row.step[:1] + row.step[2:]).rstrip()}')
-
-    def send(self, row):
-        client = self.client(row)
-        self.launch(row, client, ('cabinet', int(row.step[2])), self.offer[client], False)
-
-    def launch(self, row, client, cabinet, entry, reply):
-        self.air[row.slot] = Message(client, cabinet, row.slot, entry, reply, row.number)
-        self.messages.append(self.air[row.slot])
+    def launch(self, message):
+        self.air[message.slot] = Arrow(message)
+        self.arrows.append(self.air[message.slot])
 
     def land(self, row, fate):
-        message = self.air.pop(row.slot)
-        message.ended, message.fate = row.number, fate
-        return message
+        arrow = self.air.pop(int(row.slot))
+        arrow.ended, arrow.fate = row.number, fate
 
-    def answer(self, row):
-        message = self.land(row, 'answered')
-        cabinet, entry = message.cabinet, message.entry
-        self.launch(row, message.client, cabinet, entry, True)
-        if entry:
-            newer = cabinet not in self.newest or entry[:2] > self.newest[cabinet][:2]
-            if newer:
-                self.newest[cabinet] = entry
-                self.turn(cabinet, row.number, entry.look())
-            self.label(row, cabinet, f'offered {"newer" if newer else "older"} {entry.look()}', str(entry))
+    def ended_later(self, row):
+        """A message that went out at the foot: where it ended is told in words."""
+        if row.slot and int(row.slot) in self.air:
+            self.air.pop(int(row.slot)).ended = row.number
 
-    def end_message(self, row):
-        message = self.land(row, row.outcome)
-        if row.outcome in ('unanswered', 'discarded'):
-            self.label(row, message.client if message.reply else message.cabinet, 'aside', row.outcome)
+    def planned(self, row, _):
+        """The plan stands in the heading."""
 
-    def end_part(self, row):
-        client, look = self.land(row, 'counted').client, row.entry.look()
-        finished = row.outcome in ('written', 'read')
-        self.offer[client] = None if finished else row.entry
-        self.turn(client, row.number, None if finished else look)
-        self.label(row, client, f'{row.outcome} {look}', f'{row.outcome} {row.entry}')
+    def refused(self, row, _):
+        self.refusals.append(row)
 
-    def fault(self, row):
-        """Something befalls a lane. What a cabinet holds after a restart or rollback the transcript does not tell."""
-        lane = self.client(row) if row.outcome == 'left' else ('cabinet', int(row.step[1]))
-        look = {'left': 'gone', 'stopped': 'down'}.get(row.outcome, 'untold')
-        if look == 'untold':
-            self.newest.pop(lane, None)
-        self.turn(lane, row.number, look)
-        self.label(row, lane, 'fault', f'{row.outcome} by {row.step[2]}' if row.step[2] else row.outcome)
+    def begun(self, row, _):
+        lane = self.client(row)
+        self.turn(lane, row.number, 'asking')
+        self.label(row, lane, 'begun', f'begun: {" ".join(row.step[:1] + row.step[2:]).rstrip()}')
+
+    def sent(self, row, _):
+        self.client(row)
+        self.launch(self.run.air[row.slot])
+
+    def answered(self, row, request):
+        self.land(row, 'answered')
+        reply, held = self.run.air[row.slot], self.run.cabinets[request.cabinet].held
+        self.launch(reply)
+        if reply.taken:
+            self.turn_cabinet(row, request.cabinet)
+        verb = 'tells' if reply.told else 'takes' if reply.taken else 'keeps'
+        look, text = (told_look(reply), reply.told_words()) if reply.told else (held.look(), held)
+        self.label(row, ('cabinet', request.cabinet), f'{verb} {look}', f'{verb} {text}', request)
+
+    def unanswered(self, row, request):
+        self.land(row, 'unanswered')
+        why = self.run.cabinets[request.cabinet].silent(not request.offer)
+        self.label(row, ('cabinet', request.cabinet), 'aside', f'unanswered: {why}', request)
+
+    def lost(self, row, _):
+        self.land(row, 'lost')
+
+    def discarded(self, row, reply):
+        self.land(row, 'discarded')
+        self.label(row, ('client', reply.client), 'aside', 'discarded', reply)
+
+    def counted(self, row, reply):
+        self.land(row, 'counted')
+        heard = f'{reply.place} of {self.run.plan.quorums[reply.part]} heard'
+        look, told = (f' {told_look(reply)}', f': {reply.told_words()}') if reply.told else ('', '')
+        self.label(row, ('client', reply.client), f'heard{look}', f'{heard}{told}', reply)
+
+    def part_ended(self, row, reply):
+        self.land(row, 'counted')
+        lane, look, quorum = ('client', reply.client), row.entry.look(), self.run.plan.quorums[reply.part]
+        self.turn(lane, row.number, look if reply.part == 1 else None)
+        self.label(row, lane, f'{row.outcome} {look}', f'{quorum} of {quorum}: {row.outcome} {row.entry}', reply)
+
+    def left(self, row, _):
+        lane = self.client(row)
+        self.turn(lane, row.number, 'gone')
+        self.label(row, lane, 'fault', 'left')
+
+    def fault(self, row, _):
+        """Something befalls a cabinet, and then it holds this."""
+        place = int(row.step[1])
+        cabinet, lane = self.run.cabinets[place], ('cabinet', place)
+        text = {'stopped': 'stopped', 'rolled back': f'rolled back to {cabinet.held}',
+                'restarted': f'restarted{", stale" * cabinet.stale}: {cabinet.held}'}[row.outcome]
+        if cabinet.marked:
+            self.marked.setdefault(lane, row.number)
+        self.turn_cabinet(row, place)
+        self.label(row, lane, 'fault', text)

@@ -1,4 +1,4 @@
--- Which steps are let in: the checks 2 and 3 of document 01's table, and a step's places counted from 0.
+-- Which steps are let in: clauses S12.2 and S12.3 of docs/SCOPE.md, in this order (S5.5), and a step's places counted from 0.
 use Prim.Native.Nat.{ℕ, _-_}
 use mathlib.Core.Bool.{Bool, false, cond, _&&_}
 use lib.Dec.{leb}
@@ -6,11 +6,11 @@ use Rattle.limits.specs.Limits.{mostClients, mostOlder, mostSlots, mostSteps}
 use Rattle.cabinet.specs.Entries.{readingIn}
 use Rattle.admit.specs.Names.{Asked, Refusal, Step, Work}
 
--- from 1 to the most
+-- S12.2: from 1 to the most
 unfoldable pub oneTo : ℕ → ℕ → Bool
 oneTo most x = leb 1 x && leb x most
 
--- "unknown kind, or client, cabinet (1 to n), slot, j, reading .. out of range"
+-- S12.2, S5.1: a step of a known kind with its numbers in range
 unfoldable pub inRange : ℕ → Step → Bool
 inRange n Step.Other = false
 inRange n (Step.Write c r) = oneTo mostClients c && readingIn r
@@ -23,7 +23,7 @@ inRange n (Step.Leave c) = oneTo mostClients c
 inRange n (Step.Restart k) = oneTo n k
 inRange n (Step.Rollback k j) = oneTo n k && oneTo mostOlder j
 
--- clients, cabinets and slots from 0
+-- S5.1: what is asked for, with clients, cabinets and slots from 0
 unfoldable pub placed : Step → Asked
 placed Step.Other = Asked.Barred Refusal.Range
 placed (Step.Write c r) = Asked.Begins (c - 1) (Work.FirstWrite r)
@@ -36,6 +36,6 @@ placed (Step.Leave c) = Asked.Leaves (c - 1)
 placed (Step.Restart k) = Asked.Restarts (k - 1)
 placed (Step.Rollback k j) = Asked.RollsBack (k - 1) j
 
--- "the first that applies decides": 2, then 3, "1,000,000 steps already accepted"
+-- S5.5: first S12.2, then S12.3
 unfoldable pub admitOf : ℕ → ℕ → Step → Asked
 admitOf n steps s = cond (inRange n s) (cond (leb mostSteps steps) (Asked.Barred Refusal.Limit) (placed s)) (Asked.Barred Refusal.Range)

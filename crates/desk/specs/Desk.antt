@@ -1,4 +1,4 @@
--- A step over a lent table, in the words of document 01, "The desk's table and the firmware": the step of the run that has these records.
+-- A step over a lent table, the step of the run that has these records: clauses S12.14 and S14 of docs/SCOPE.md.
 use Prim.Native.Nat.{ℕ, _-_}
 use mathlib.Core.Bool.{cond}
 use mathlib.Core.List.{List, _++_}
@@ -10,38 +10,39 @@ use Rattle.cabinet.specs.Cabinets.{freshCabinet}
 use Rattle.types.specs.Answers.{answerNumber}
 use Rattle.run.specs.Steps.{stepOf}
 
--- the number that comes back: 14, "a lent cabinet table hasn't n records", or that of the step
+-- S12.14, S18.7: the number that comes back, 14 or that of the step
 abbrev pub lentNumber : Lent → ℕ
 lentNumber Lent.WrongLength = 14
 lentNumber (Lent.Answered a) = answerNumber a
 
--- the run with other cabinets
+-- S14.2: the run with other cabinets
 unfoldable pub withCabinets : Run → List Cabinet → Run
 withCabinets run l = record { plan = run .plan; steps = run .steps; cabinets = l; clients = run .clients; slots = run .slots }
 
--- "The lent records then stand for the run's own"; the places past them are those of a fresh cabinet, so that the run's own are not read
+-- S14.2, S14.4: the lent records in place of the run's own; past them are fresh cabinets, so that the run's own are not read
 unfoldable pub withRecords : Run → List Cabinet → Run
 withRecords run table = withCabinets run (table ++ replicate (mostCabinets - length table) freshCabinet)
 
--- the step of the run that has these records
+-- S14.2: the step of the run that has these records
 unfoldable pub viewed : Run → List Cabinet → Step → Stepped
 viewed run table s = stepOf (withRecords run table) s
 
--- "the run's own are neither read nor changed"
+-- S14.4: the run's own records are put back
 unfoldable pub answered : Run → Stepped → Served
 answered run z = record { answer = Lent.Answered (z .answer); run = withCabinets (z .run) (run .cabinets) }
 
--- "Every refusal changes nothing"
+-- S5.4: a refusal changes nothing
 abbrev pub wrongLength : Run → Served
 wrongLength run = record { answer = Lent.WrongLength; run = run }
 
--- answer 14 comes before all others: the table has not n records, "n as the run says"
+-- S12.14, S14.1: answer 14 before all others, by the n that the run says; S14.2: otherwise as the first entrance
 unfoldable pub lentOf : Run → List Cabinet → Step → Served
 lentOf run table s = cond (eqb (length table) (run .plan .n)) (answered run (viewed run table s)) (wrongLength run)
 
+-- S14.3: the table afterwards; S14.1: refused, it is as it was
 unfoldable pub tableOf : Run → List Cabinet → Step → List Cabinet
 tableOf run table s = cond (eqb (length table) (run .plan .n)) (take (length table) (viewed run table s .run .cabinets)) table
 
--- the first `len` records of an array are lent, and the others stay as they are
+-- S14.1: the first `len` records of an array are lent, and the others stay as they are
 unfoldable pub localOf : Run → List Cabinet → ℕ → Step → Local
 localOf run table len s = record { served = lentOf run (take len table) s; table = tableOf run (take len table) s ++ drop len table }

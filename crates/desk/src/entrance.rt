@@ -7,6 +7,7 @@ use types::Step;
 ghost use mathlib.Core.Path.{_≡_};
 ghost use Rattle.desk.specs.Desk.{lentOf, tableOf};
 
+// S14.1, S20.8: a step over the records that the desk lends.
 pub fn step_lent(run: Run, table: &mut [Cabinet], s: Step) -> Served
     ensures { λ r. ⌜ (r ≡ lentOf run (now (table .entry)) s) × (now (table .exit) ≡ tableOf run (now (table .entry)) s) ⌝ }
 {

@@ -24,7 +24,8 @@ fn judge(held: Decoded, offered: Decoded) -> u32
     }
 }
 
-// The buffers must not overlap; include/cabinet.h tells C so, and the types tell Rattle.
+// S15.1, S20.6: the call for C; S15.7: offered is lent to be read. The buffers must not overlap; include/cabinet.h tells C so, and
+// the types tell Rattle.
 #[no_mangle]
 pub extern "C" fn cabinet_offer(held: &mut [u8], offered: &[u8]) -> u32
     ensures { λ r. ⌜ r ≡ answerOf (now (held .entry)) (now (offered .entry)) ⌝ }

@@ -1,33 +1,34 @@
--- The limits of a line, each beside the sentence of document 01 that sets it.
+-- The limits of a line, each with the clause of docs/SCOPE.md that sets it.
 use Prim.Native.Nat.{ℕ, _-_}
 
--- "n cabinets 2 to 9"
+-- S1.2: a line has at least so many cabinets
 abbrev pub fewestCabinets : ℕ
 fewestCabinets = 2
 
+-- S1.2: and at most so many; S4.1: a run has a record for each of these
 abbrev pub mostCabinets : ℕ
 mostCabinets = 9
 
--- "clients 1 to 8", and "writers 0 to 8"
+-- S1.3: the clients; S13.6: writers are their numbers, and 0
 abbrev pub mostClients : ℕ
 mostClients = 8
 
--- "slots 1 to 64"
+-- S1.4: the slots
 abbrev pub mostSlots : ℕ
 mostSlots = 64
 
--- "A store keeps the last eight versions, the present one included"
+-- S11.1: the versions that a store keeps, with the present one
 abbrev pub mostVersions : ℕ
 mostVersions = 8
 
--- "j from 1 to 7": "the version j places older"
+-- S11.4: as far as a rollback may go, to the oldest of these
 abbrev pub mostOlder : ℕ
 mostOlder = mostVersions - 1
 
--- "accepted steps at most 1,000,000"
+-- S1.6: the steps that a run accepts
 abbrev pub mostSteps : ℕ
 mostSteps = 1_000_000
 
--- "open with 0 to 240 minutes"
+-- S2.3: the longest wait
 abbrev pub mostMinutes : ℕ
 mostMinutes = 240

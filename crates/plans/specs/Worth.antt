@@ -1,4 +1,5 @@
--- Which plans are worth choosing, over the planning rule's own answers.
+-- Which plans are worth choosing, over the planning rule's own answers. No clause of docs/SCOPE.md asks for it; docs/DECISIONS.md
+-- has the reason.
 use Prim.Native.Nat.{ℕ, _+_}
 use mathlib.Core.Bool.{Bool, false, _&&_, not}
 use lib.Dec.{leb}

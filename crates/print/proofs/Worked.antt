@@ -1,4 +1,4 @@
--- Rows of document 01 as the definitions have them, and the longest row there is. Assumes nothing.
+-- Rows of docs/SCOPE.md (S17.11, S17.12) as the definitions have them, and the longest row there is. Assumes nothing.
 use mathlib.Core.List.{_++_}
 use mathlib.Core.Path.{_≡_, refl}
 use lib.ListN.{length}

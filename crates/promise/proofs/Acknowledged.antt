@@ -8,7 +8,7 @@ use mathlib.Core.Logic.{_⊎_, inl, inr, ⊎-elim}
 use native.Mathlib.Nat.{le-refl, le-trans}
 use native.Mathlib.Omega.{arith}
 use Rattle.promise.specs.Names.{Entry}
-use Rattle.promise.specs.Events.{Kind, write, read, Event}
+use Rattle.promise.specs.Events.{Kind, Event, Aim, writes, reads}
 use Rattle.promise.proofs.View.{Phase, idle, gone, first, second, Talk, ask, offer, stampIs, entryIs, ack, View, at, Safe, Grow, New, Counts, Act, begin, hear, choose, find, count, finish, leave, Move, radio, client, safe-grow}
 
 -- an offer under the client's present operation number: it is what the second part offers; a first part has made none
@@ -91,14 +91,14 @@ module _ (Quorum : (ℕ → Bool) → Type 0) where
   number-up {v} {w} {c} (leave t) = rw t (le-refl (v .client c .number))
 
   -- what is said of a message under the client's operation number, through an act of the client
-  due : {v w : View} {c : ℕ} {l : Event} (Q Q′ : Phase → Type 0) → ((k : Kind) (H D : ℕ → Bool) (b : Entry) → Q (first k H D b) → ⊥)
+  due : {v w : View} {c : ℕ} {l : Event} (Q Q′ : Phase → Type 0) → ((q : Aim) (H D : ℕ → Bool) (b : Entry) → Q (first q H D b) → ⊥)
       → ((k : Kind) (H H′ : ℕ → Bool) (b : Entry) → Q (second k H b) → Q′ (second k H′ b)) → Q′ idle → Q′ gone
       → Act Quorum v w c l → (n : ℕ) → n ≤ v .client c .number → (n ≡ v .client c .number → Q (v .client c .phase))
       → n ≡ w .client c .number → Q′ (w .client c .phase)
   due Q Q′ no₁ same i g (begin n k D a b) j h q = rw b (λ e. absurd (omega (arith, rw a at h)))
   due Q Q′ no₁ same i g (hear n k H D H′ D′ b b′ x y t) j h q = rw t (λ d. absurd (no₁ k H D b ((rw x at q) d)))
-  due Q Q′ no₁ same i g (choose n H D H′ D′ b b′ e x y z u t) j h q = rw t (λ d. absurd (no₁ write H D b ((rw x at q) d)))
-  due Q Q′ no₁ same i g (find n H D H′ D′ b b′ x y z t) j h q = rw t (λ d. absurd (no₁ read H D b ((rw x at q) d)))
+  due Q Q′ no₁ same i g (choose n H D H′ D′ b b′ e x y z u t) j h q = rw t (λ d. absurd (no₁ (writes (e .reading)) H D b ((rw x at q) d)))
+  due Q Q′ no₁ same i g (find n H D H′ D′ b b′ x y z t) j h q = rw t (λ d. absurd (no₁ reads H D b ((rw x at q) d)))
   due Q Q′ no₁ same i g (count n k H H′ e x y t) j h q = rw t (λ d. same k H H′ e ((rw x at q) d))
   due Q Q′ no₁ same i g (finish n k H H′ e x y z t) j h q = rw t (λ d. i)
   due Q Q′ no₁ same i g (leave t) j h q = rw t (λ d. g)

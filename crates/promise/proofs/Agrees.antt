@@ -1,55 +1,36 @@
 -- The events agree with the outcome words that the rehearsal shows: begun, chosen, written and read have their event, with the entry
 -- that is shown, and no other word and no refusal has one. For every run and step. Assumes nothing.
-use Prim.Native.Nat.{ℕ, _+_, _-_}
-use mathlib.Core.Path.{_≡_, refl, sym, subst}
+use Prim.Native.Nat.{ℕ, _+_, _-_, _≤_}
+use mathlib.Core.Path.{_≡_, refl, sym, ap, subst, _∙_}
 use mathlib.Core.Bool.{Bool, true, false, cond, _||_}
+use native.Mathlib.Omega.{arith}
 use lib.Dec.{leb, ltb}
-use Rattle.limits.specs.Limits.{mostSlots}
-use Rattle.promise.specs.Names.{Answer, Asked, Body, Change, Client, Decision, Deed, Ending, Entry, Heard, Held, Message, Outcome, Plan, Power, Refusal, Run, Sight, Standing, Step, Told, Work}
+use Rattle.limits.specs.Limits.{mostClients, mostSlots}
+use Rattle.promise.specs.Names.{Asked, Body, Change, Client, Decision, Deed, Ending, Entry, Heard, Held, Message, Outcome, Plan, Power, Refusal, Run, Sight, Standing, Step, Told, Work}
+use Rattle.plan.proofs.RuleLaws.{both}
 use Rattle.cabinet.specs.Cabinets.{keepsOlder}
 use Rattle.heard.specs.Heard.{withOf, countOf}
 use Rattle.types.specs.Parts.{sightOf, storedIn}
 use Rattle.client.specs.Begin.{standingOf, beginsBy, beginsOf, sendsBy, sendsOf, leavesBy, leavesOf, requestSlot}
 use Rattle.client.specs.Hear.{toldOf, counted, ended, firstWrite, firstRead, second, hearBy, hearsOf}
-use Rattle.admit.specs.Admit.{placed}
+use Rattle.admit.specs.Admit.{oneTo, inRange, placed}
 use Rattle.server.specs.Deeds.{stopsWhen, rollsOf}
 use Rattle.server.specs.Requests.{answersBy, answersWhen, answersOf}
-use Rattle.admit.proofs.AdmitLaws.{admitted-by}
+use Rattle.admit.proofs.AdmitLaws.{one-to-is, admitted-by}
 use Rattle.run.specs.Steps.{clientAt, slotAt, cabinetAt, losesBy, deliversIn, decideOf, putBack, goOf, stepOf}
 use Rattle.run.specs.Undamaged.{undamaged}
 use Rattle.run.proofs.FrameLaws.{step-is-go, step-damaged}
-use Rattle.promise.specs.Events.{Kind, write, read, Event, nothing, begun, chosen, finished, beginning, ending, answerEvent, event}
+use Rattle.promise.specs.Agrees.{Holds, Has, Agrees}
+use Rattle.promise.specs.Events.{write, read, writes, reads, Event, beginning, ending, endingIn, answerEvent, event}
 use Rattle.promise.proofs.Moves.{ending-event}
-
--- the event that an outcome word has
-abbrev Has : Outcome → Event → Type 0
-Has Outcome.Begun x = (c : ℕ) × (n : ℕ) × (k : Kind) × (x ≡ begun c n k)
-Has (Outcome.Sent j) x = x ≡ nothing
-Has (Outcome.Answered j) x = x ≡ nothing
-Has (Outcome.Unanswered j) x = x ≡ nothing
-Has (Outcome.Discarded j) x = x ≡ nothing
-Has (Outcome.Counted j) x = x ≡ nothing
-Has (Outcome.Ended Ending.Chosen j e) x = (c : ℕ) × (n : ℕ) × (x ≡ chosen c n e)
-Has (Outcome.Ended Ending.Found j e) x = x ≡ nothing
-Has (Outcome.Ended Ending.Written j e) x = (c : ℕ) × (n : ℕ) × (x ≡ finished c n write e)
-Has (Outcome.Ended Ending.Read j e) x = (c : ℕ) × (n : ℕ) × (x ≡ finished c n read e)
-Has (Outcome.Lost j) x = x ≡ nothing
-Has Outcome.Stopped x = x ≡ nothing
-Has Outcome.Left x = x ≡ nothing
-Has Outcome.Restarted x = x ≡ nothing
-Has Outcome.RolledBack x = x ≡ nothing
-
-abbrev pub Agrees : Answer → Event → Type 0
-Agrees (Answer.Refused why) x = x ≡ nothing
-Agrees (Answer.Accepted o) x = Has o x
 
 module _ (run : Run) (s : Step) where
   abbrev Ok : Decision → Type 0
-  Ok d = Agrees (putBack run d .answer) (answerEvent run s (putBack run d .run) (putBack run d .answer))
+  Ok d = Agrees run s (putBack run d .run) (putBack run d .answer) (answerEvent run s (putBack run d .run) (putBack run d .answer))
 
   -- ---- clients
 
-  begins-ok : (i : ℕ) (c : Client) (w : Work) → ((after : Run) → Has Outcome.Begun (beginning s after)) → Ok (beginsOf i c w)
+  begins-ok : (i : ℕ) (c : Client) (w : Work) → ((after : Run) → Has run s after Outcome.Begun (beginning s after)) → Ok (beginsOf i c w)
   unfolding beginsOf
   begins-ok i c w h = go (standingOf (c .work))
     where
@@ -83,17 +64,24 @@ module _ (run : Run) (s : Step) where
   -- ---- a reply
 
   module _ (j : ℕ) (m : Message) (at-j : slotAt run j .held ≡ Held.Reply m) (plan : Plan) (c : Client) (h : Heard) where
-    has-ending : (how : Ending) (e : Entry) → Has (Outcome.Ended how (j + 1) e) (ending how m e)
-    has-ending Ending.Chosen e = (m .client, m .operation, refl)
-    has-ending Ending.Found e = refl
-    has-ending Ending.Written e = (m .client, m .operation, refl)
-    has-ending Ending.Read e = (m .client, m .operation, refl)
+    in-slot : Holds run (j + 1) m
+    in-slot = ap (λ (i : ℕ). slotAt run i .held) (let z : j + 1 - 1 ≡ j = omega arith in z) ∙ at-j
+
+    has-ending : (after : Run) (how : Ending) (e : Entry) → Has run s after (Outcome.Ended how (j + 1) e) (ending how m e)
+    has-ending after Ending.Chosen e = (m, in-slot, refl)
+    has-ending after Ending.Found e = refl
+    has-ending after Ending.Written e = (m, in-slot, refl)
+    has-ending after Ending.Read e = (m, in-slot, refl)
+
+    ended-ok : (after : Run) (how : Ending) (e : Entry)
+        → Has run s after (Outcome.Ended how (j + 1) e) (endingIn how (slotAt run (j + 1 - 1) .held) e)
+    ended-ok after how e =
+        subst (λ (x : Event). Has run s after (Outcome.Ended how (j + 1) e) x) (sym (ending-event run j m at-j how e)) (has-ending after how e)
 
     -- the part ends, or the reply is counted
     part-ok : (t : Bool) (how : Ending) (e : Entry) (w : Work) (b d : Entry)
         → Ok (cond t (ended (m .client) j (c .operation) how e w b) (counted (m .client) j c h d))
-    part-ok true how e w b d =
-        subst (λ (x : Event). Has (Outcome.Ended how (j + 1) e) x) (sym (ending-event run j m at-j how e)) (has-ending how e)
+    part-ok true how e w b d = ended-ok _ how e
     part-ok false how e w b d = refl
 
     hear-ok : (t : Told) → Ok (hearBy t plan (m .client) j c h)
@@ -171,29 +159,35 @@ module _ (run : Run) (s : Step) where
   barred-ok why = refl
 
 module _ (run : Run) where
-  placed-ok : (s : Step) → Ok run s (decideOf run (placed s))
-  unfolding placed decideOf
-  placed-ok Step.Other = refl
-  placed-ok (Step.Write c r) =
-      begins-ok run (Step.Write c r) (c - 1) (clientAt run (c - 1)) (Work.FirstWrite r)
-      (λ after. (c - 1, clientAt after (c - 1) .operation, write, refl))
-  placed-ok (Step.Read c) =
-      begins-ok run (Step.Read c) (c - 1) (clientAt run (c - 1)) Work.FirstRead
-      (λ after. (c - 1, clientAt after (c - 1) .operation, read, refl))
-  placed-ok (Step.Send c k) = sends-ok run (Step.Send c k) (c - 1) (k - 1) (clientAt run (c - 1)) _
-  placed-ok (Step.Deliver j) = delivers-ok run (Step.Deliver j) (j - 1)
-  placed-ok (Step.Lose j) = loses-ok run (Step.Lose j) (j - 1)
-  placed-ok (Step.Stop k) = stops-ok run (Step.Stop k) (k - 1)
-  placed-ok (Step.Leave c) = leaves-ok run (Step.Leave c) (c - 1) (clientAt run (c - 1))
-  placed-ok (Step.Restart k) = restarts-ok run (Step.Restart k) (k - 1)
-  placed-ok (Step.Rollback k j) = rolls-ok run (Step.Rollback k j) (run .plan) (k - 1) j (sightOf (cabinetAt run (k - 1))) _
+  -- a client's number, and its place
+  numbered : (c : ℕ) → 1 ≤ c → c ≡ c - 1 + 1
+  numbered c h = omega arith
 
-  pub agrees : (s : Step) → Agrees (stepOf run s .answer) (event run s)
+  placed-ok : (s : Step) → inRange (run .plan .n) s ≡ true → Ok run s (decideOf run (placed s))
+  unfolding inRange placed decideOf
+  placed-ok Step.Other h = refl
+  placed-ok (Step.Write c r) h =
+      let low = one-to-is mostClients c (both (oneTo mostClients c) _ h .0) .0 in
+      begins-ok run (Step.Write c r) (c - 1) (clientAt run (c - 1)) (Work.FirstWrite r)
+      (λ after. (c - 1, writes r, ap (λ (d : ℕ). Step.Write d r) (numbered c low), refl))
+  placed-ok (Step.Read c) h =
+      begins-ok run (Step.Read c) (c - 1) (clientAt run (c - 1)) Work.FirstRead
+      (λ after. (c - 1, reads, ap Step.Read (numbered c (one-to-is mostClients c h .0)), refl))
+  placed-ok (Step.Send c k) h = sends-ok run (Step.Send c k) (c - 1) (k - 1) (clientAt run (c - 1)) _
+  placed-ok (Step.Deliver j) h = delivers-ok run (Step.Deliver j) (j - 1)
+  placed-ok (Step.Lose j) h = loses-ok run (Step.Lose j) (j - 1)
+  placed-ok (Step.Stop k) h = stops-ok run (Step.Stop k) (k - 1)
+  placed-ok (Step.Leave c) h = leaves-ok run (Step.Leave c) (c - 1) (clientAt run (c - 1))
+  placed-ok (Step.Restart k) h = restarts-ok run (Step.Restart k) (k - 1)
+  placed-ok (Step.Rollback k j) h = rolls-ok run (Step.Rollback k j) (run .plan) (k - 1) j (sightOf (cabinetAt run (k - 1))) _
+
+  pub agrees : (s : Step) → Agrees run s (stepOf run s .run) (stepOf run s .answer) (event run s)
   unfolding event goOf
   agrees s = go (undamaged run) refl
     where
-      go : (t : Bool) → undamaged run ≡ t → Agrees (stepOf run s .answer) (answerEvent run s (stepOf run s .run) (stepOf run s .answer))
+      go : (t : Bool) → undamaged run ≡ t
+          → Agrees run s (stepOf run s .run) (stepOf run s .answer) (answerEvent run s (stepOf run s .run) (stepOf run s .answer))
       go true e =
           rw (step-is-go run s e)
-          (admitted-by (run .plan .n) (run .steps) s (λ a. Ok run s (decideOf run a)) (barred-ok run s) (λ e l. placed-ok s))
+          (admitted-by (run .plan .n) (run .steps) s (λ a. Ok run s (decideOf run a)) (barred-ok run s) (λ e l. placed-ok s e))
       go false e = rw (step-damaged run s e) refl

@@ -15,6 +15,7 @@ use Rattle.run.specs.Steps.{clientAt, slotAt, cabinetAt}
 use Rattle.promise.proofs.View.{Talk, offer, entryIs, ack}
 use Rattle.promise.proofs.Acknowledged.{Acknowledged}
 use Rattle.promise.proofs.Known.{Known}
+use Rattle.promise.proofs.Opened.{Opened}
 use Rattle.promise.proofs.SimView.{Carries, seatOf, view, seat-seen}
 
 -- a place of an array that is filled with one value, or a place past its end
@@ -53,6 +54,9 @@ module _ (p : Plan) where
         acks = λ c n q h. absurd (no-message c n q ack h);
         heard = λ c. rw (no-operation c) tt;
       }
+
+  pub fresh-opened : Opened (λ c n q. ⊥) (λ c n e. ⊥) (view run)
+  fresh-opened c = rw (no-operation c) tt
 
   pub fresh-known : Known (λ e. e ≡ factoryEntry) (view run)
   fresh-known =

@@ -1,5 +1,5 @@
 -- The promise is kept: every plan that is accepted, every list of steps, refused ones included. Assumes nothing.
--- The argument stands in View (what is seen of a run, and its moves), Acknowledged, Lasting, OwnChoice and Known (the invariants I4 .. I15
+-- The argument stands in View (what is seen of a run, and its moves), Acknowledged, Lasting, OwnChoice, Known and Opened (the invariants
 -- of docs/PROMISE.md, which each move keeps), Trace (lists of steps, from laws of one step) and Viewed (the moves have those laws). Sim
 -- shows that each step of a run is one move of its view; what it needs of the run is in Good, from the laws of crate run.
 use Prim.Native.Nat.{ℕ}
@@ -11,14 +11,14 @@ use Rattle.run.specs.Start.{freshRun, startBy, startOf}
 use Rattle.run.specs.Steps.{stepOf}
 use Rattle.run.proofs.FrameLaws.{step-plan}
 use Rattle.promise.specs.Events.{Event, event, events}
-use Rattle.promise.specs.Promise.{Promise}
+use Rattle.promise.specs.Promise.{Promise, Linked}
 use Rattle.promise.proofs.View.{Move}
 use Rattle.promise.proofs.Trace.{trace}
-use Rattle.promise.proofs.Viewed.{viewed}
+use Rattle.promise.proofs.Viewed.{viewed, viewed-linked}
 use Rattle.promise.proofs.SimView.{view, QuorumIn}
 use Rattle.promise.proofs.Good.{Good, good-step, good-fresh}
 use Rattle.promise.proofs.Sim.{sim}
-use Rattle.promise.proofs.Fresh.{fresh-acknowledged, fresh-known}
+use Rattle.promise.proofs.Fresh.{fresh-acknowledged, fresh-opened, fresh-known}
 
 abbrev next : Run → Step → Run
 next run s = stepOf run s .run
@@ -37,14 +37,20 @@ traced : (run : Run) (ss : List Step) → trace next event run ss ≡ events run
 traced run [] = refl
 traced run (s ∷ ss) = ap (λ (l : List Event). event run s ∷ l) (traced (next run s) ss)
 
-pub promise : (n k r b : ℕ) (p : Plan) → planOf n k r b ≡ Planned.Accepted p → (ss : List Step) → Promise (events (freshRun p) ss)
-promise n k r b p e ss =
-    subst (λ (l : List Event). Promise l) (traced (freshRun p) ss)
-    (viewed next event (QuorumIn p) view (Goes p) (goes-on p) (moves p) (freshRun p) (good-fresh n k r b p e, planned)
-    (fresh-acknowledged p) (fresh-known p) ss)
-  where
-    planned : freshRun p .plan ≡ p
-    planned = unfold freshRun in refl
+module _ (n k r b : ℕ) (p : Plan) (e : planOf n k r b ≡ Planned.Accepted p) (ss : List Step) where
+  goes : Goes p (freshRun p)
+  goes = (good-fresh n k r b p e, unfold freshRun in refl)
+
+  pub promise : Promise (events (freshRun p) ss)
+  promise =
+      subst (λ (l : List Event). Promise l) (traced (freshRun p) ss)
+      (viewed next event (QuorumIn p) view (Goes p) (goes-on p) (moves p) (freshRun p) goes (fresh-acknowledged p) (fresh-opened p) ss (fresh-known p))
+
+  -- and the events of one operation belong together
+  pub linked : Linked (events (freshRun p) ss)
+  linked =
+      subst (λ (l : List Event). Linked l) (traced (freshRun p) ss)
+      (viewed-linked next event (QuorumIn p) view (Goes p) (goes-on p) (moves p) (freshRun p) goes (fresh-acknowledged p) (fresh-opened p) ss)
 
 -- a refused plan too comes back with a run, that of plan 2,0,0,0: so it holds of whatever run a plan returns
 pub promise-always : (n k r b : ℕ) (ss : List Step) → Promise (events (startOf n k r b .run) ss)

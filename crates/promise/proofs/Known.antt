@@ -6,15 +6,15 @@ use mathlib.Core.Bool.{Bool}
 use mathlib.Core.Logic.{⊎-elim}
 use Rattle.promise.specs.Names.{Entry}
 use Rattle.cabinet.specs.Entries.{factoryEntry}
-use Rattle.promise.specs.Events.{Kind, write, read, Event, chosen, finished}
+use Rattle.promise.specs.Events.{Kind, read, writes, reads, Event, chosen, finished}
 use Rattle.promise.proofs.View.{Phase, idle, gone, first, second, offer, entryIs, View, at, Hears, Act, begin, hear, choose, find, count, finish, leave, Move, radio, client}
 
 -- a write's first part hears stamps alone, so its best is no entry that anyone chose
 abbrev pub KnownAt : (Entry → Type 0) → Phase → Type 0
 KnownAt C idle = Unit
 KnownAt C gone = Unit
-KnownAt C (first write H D b) = Unit
-KnownAt C (first read H D b) = C b
+KnownAt C (first (writes r) H D b) = Unit
+KnownAt C (first reads H D b) = C b
 KnownAt C (second k H e) = C e
 
 pub record Known (C : Entry → Type 0) (v : View) : Type 0 where
@@ -31,22 +31,22 @@ module _ (Quorum : (ℕ → Bool) → Type 0) (C C′ : Entry → Type 0) (up : 
   known-up : (f : Phase) → KnownAt C f → KnownAt C′ f
   known-up idle h = tt
   known-up gone h = tt
-  known-up (first write H D b) h = tt
-  known-up (first read H D b) h = up b h
+  known-up (first (writes r) H D b) h = tt
+  known-up (first reads H D b) h = up b h
   known-up (second k H e) h = up e h
 
   -- what a read has heard, with the reply that is heard now
-  known-read : {v : View} (c n : ℕ) (H D H′ D′ : ℕ → Bool) (b b′ : Entry) → Known C v → v .client c ≡ at n (first read H D b)
+  known-read : {v : View} (c n : ℕ) (H D H′ D′ : ℕ → Bool) (b b′ : Entry) → Known C v → v .client c ≡ at n (first reads H D b)
       → Hears v c n read H D b H′ D′ b′ → C′ b′
   known-read c n H D H′ D′ b b′ K x y =
       up b′ (⊎-elim (λ q. rw q (rw x at (K .clients c))) (λ q. rw q (K .told c n (y .from) (y .said) (y .doubt) (y .aired))) (y .either))
 
   known-act : {v w : View} {c : ℕ} {l : Event} → ((e : Entry) (d m : ℕ) → l ≡ chosen d m e → C′ e) → Known C v → Act Quorum v w c l
       → KnownAt C′ (w .client c .phase)
-  known-act ch K (begin n write D a b) = rw b tt
-  known-act ch K (begin n read D a b) = rw b made
-  known-act ch K (hear n write H D H′ D′ b b′ x y t) = rw t tt
-  known-act {c = c} ch K (hear n read H D H′ D′ b b′ x y t) = rw t (known-read c n H D H′ D′ b b′ K x y)
+  known-act ch K (begin n (writes r) D a b) = rw b tt
+  known-act ch K (begin n reads D a b) = rw b made
+  known-act ch K (hear n (writes r) H D H′ D′ b b′ x y t) = rw t tt
+  known-act {c = c} ch K (hear n reads H D H′ D′ b b′ x y t) = rw t (known-read c n H D H′ D′ b b′ K x y)
   known-act {c = c} ch K (choose n H D H′ D′ b b′ e x y z u t) = rw t (ch e c n refl)
   known-act {c = c} ch K (find n H D H′ D′ b b′ x y z t) = rw t (known-read c n H D H′ D′ b b′ K x y)
   known-act {c = c} ch K (count n k H H′ e x y t) = rw t (up e (rw x at (K .clients c)))

@@ -8,7 +8,7 @@ use mathlib.Core.Logic.{_⊎_, inl, inr, ⊎-elim}
 use native.Mathlib.Nat.{lt-irrefl, lt-of-le-of-lt}
 use native.Mathlib.Omega.{arith}
 use Rattle.promise.specs.Names.{Entry, Stamp}
-use Rattle.promise.specs.Events.{Kind, write, read, Event, chosen, finished}
+use Rattle.promise.specs.Events.{Kind, write, read, Event, chosen, finished, Aim, writes, reads, kindOf}
 use Rattle.promise.proofs.Stamps.{_⊑_, _⊏_, ⊑-trans, ⊑-counter}
 use Rattle.promise.proofs.View.{Phase, idle, gone, first, second, Talk, ask, offer, stampIs, entryIs, ack, View, at, Safe, Grow, Answers, New, tells, Hears, Meets, Above, Act, begin, hear, choose, find, count, finish, leave, Move, radio, client, safe-grow}
 use Rattle.promise.proofs.Acknowledged.{Acknowledged, counted-safe, acknowledged-move}
@@ -88,14 +88,14 @@ module _ (Quorum : (ℕ → Bool) → Type 0) where
 
   module _ (s : Stamp) (W : ℕ → Bool) (quorum : Quorum W) (since : ℕ → ℕ) where
     -- what a later operation has heard, with the reply that is heard now
-    heard-lasting : {v : View} (c n : ℕ) (k : Kind) (H D H′ D′ : ℕ → Bool) (b b′ : Entry) → Lasting s W since v
+    heard-lasting : {v : View} (c n : ℕ) (k : Aim) (H D H′ D′ : ℕ → Bool) (b b′ : Entry) → Lasting s W since v
         → v .client c ≡ at n (first k H D b)
-        → Hears v c n k H D b H′ D′ b′ → since c < n → (q : ℕ) → W q ≡ true → H′ q ≡ true → Level s (b′ .stamp) (D′ q) (v .weak q)
+        → Hears v c n (kindOf k) H D b H′ D′ b′ → since c < n → (q : ℕ) → W q ≡ true → H′ q ≡ true → Level s (b′ .stamp) (D′ q) (v .weak q)
     heard-lasting {v} c n k H D H′ D′ b b′ L x y l q i j = go (y .plus q j)
       where
         go : (q ≡ y .from) ⊎ (H q ≡ true) → Level s (b′ .stamp) (D′ q) (v .weak q)
         go (inl e) = rw e (⊎-elim (λ a. inl (⊑-trans a (y .topped))) (λ a. inr (y .doubted (a .0), a .1))
-            (tells-level s (v .weak (y .from)) k (y .said) (y .doubt) (L .told c n (y .from) _ (y .aired) l (rw e at i))))
+            (tells-level s (v .weak (y .from)) (kindOf k) (y .said) (y .doubt) (L .told c n (y .from) _ (y .aired) l (rw e at i))))
         go (inr h) = ⊎-elim (λ a. inl (⊑-trans a (y .kept q h))) (λ a. inr (y .doubts q (a .0), a .1)) ((rw x at (L .clients c)) l q i h)
 
     -- a first part that meets W has heard of s
@@ -129,9 +129,9 @@ module _ (Quorum : (ℕ → Bool) → Type 0) where
     lasting-act {v} {w} {c} g L (hear n k H D H′ D′ b b′ x y t) =
         rw t (λ l. lasting-grow g s W (first k H′ D′ b′) (heard-lasting c n k H D H′ D′ b b′ L x y l))
     lasting-act {v} {w} {c} g L (choose n H D H′ D′ b b′ e x y z u t) =
-        rw t (λ l. above c b′ e u (heard-of v H′ D′ b′ z (heard-lasting c n write H D H′ D′ b b′ L x y l)))
+        rw t (λ l. above c b′ e u (heard-of v H′ D′ b′ z (heard-lasting c n (writes (e .reading)) H D H′ D′ b b′ L x y l)))
     lasting-act {v} {w} {c} g L (find n H D H′ D′ b b′ x y z t) =
-        rw t (λ l. heard-of v H′ D′ b′ z (heard-lasting c n read H D H′ D′ b b′ L x y l))
+        rw t (λ l. heard-of v H′ D′ b′ z (heard-lasting c n reads H D H′ D′ b b′ L x y l))
     lasting-act {v} {w} {c} g L (count n k H H′ e x y t) = rw t (rw x at (L .clients c))
     lasting-act g L (finish n k H H′ e x y z t) = rw t (λ l. tt)
     lasting-act g L (leave t) = rw t (λ l. tt)
@@ -154,4 +154,4 @@ module _ (Quorum : (ℕ → Bool) → Type 0) where
     pub lasting-choose : {v w : View} {c n : ℕ} {e : Entry} → Lasting s W since v → Move Quorum v w (chosen c n e) → since c < n
         → s ⊏ e .stamp
     lasting-choose {v} L (client c g h a o (choose n H D H′ D′ b b′ e x y z u t)) l =
-        above c b′ e u (heard-of v H′ D′ b′ z (heard-lasting c n write H D H′ D′ b b′ L x y l))
+        above c b′ e u (heard-of v H′ D′ b′ z (heard-lasting c n (writes (e .reading)) H D H′ D′ b b′ L x y l))

@@ -12,6 +12,7 @@ pub mod Lasting
 pub mod Limits
 pub mod MarkedLaws
 pub mod Moves
+pub mod Opened
 pub mod OwnChoice
 pub mod Sim
 pub mod SimCabinet

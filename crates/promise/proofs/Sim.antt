@@ -21,7 +21,7 @@ use Rattle.run.specs.Gather.{firstFrom, othersFrom}
 use Rattle.run.specs.Steps.{clientAt, slotAt, cabinetAt, losesBy, deliversIn, decideOf, changed, goOf, stepOf}
 use Rattle.run.proofs.FitLaws.{holds}
 use Rattle.run.proofs.FrameLaws.{step-is-go}
-use Rattle.promise.specs.Events.{Kind, write, read, Event, begun, beginning, event}
+use Rattle.promise.specs.Events.{Event, begun, beginning, event, Aim, writes, reads}
 use Rattle.promise.proofs.View.{Phase, idle, first, Seat, none, at, begin, leave, Move}
 use Rattle.promise.proofs.SimView.{all, phaseOf, view, seat-seen, QuorumIn, none-heard, by-client, now-client}
 use Rattle.promise.proofs.SimCabinet.{sim-stop, sim-restart, sim-rollback, sim-offer}
@@ -51,7 +51,7 @@ module _ (run : Run) (G : Good run) (s : Step) where
   stands-free Work.SecondWrite h = absurd (let z : _≡_ {A = ℕ} 0 1 = cc in omega arith)
   stands-free Work.SecondRead h = absurd (let z : _≡_ {A = ℕ} 0 1 = cc in omega arith)
 
-  sim-begin : (i : ℕ) (k : Kind) (w : Work) → i < mostClients → ((H : ℕ → Bool) → phaseOf w H factoryEntry ≡ first k H all factoryEntry)
+  sim-begin : (i : ℕ) (k : Aim) (w : Work) → i < mostClients → ((H : ℕ → Bool) → phaseOf w H factoryEntry ≡ first k H all factoryEntry)
       → ((after : Run) → beginning s after ≡ begun i (clientAt after i .operation) k) → Moves run s (beginsOf i (clientAt run i) w)
   unfolding beginsOf
   sim-begin i k w low ph ev = go (standingOf (clientAt run i .work)) refl
@@ -195,10 +195,10 @@ module _ (run : Run) (G : Good run) where
   unfolding inRange placed decideOf
   sim-placed Step.Other h = refused-stays run
   sim-placed (Step.Write c r) h =
-      sim-begin run G (Step.Write c r) (c - 1) write (Work.FirstWrite r) (from-zero mostClients c (both (oneTo mostClients c) _ h .0))
+      sim-begin run G (Step.Write c r) (c - 1) (writes r) (Work.FirstWrite r) (from-zero mostClients c (both (oneTo mostClients c) _ h .0))
       (λ H. refl) (λ after. refl)
   sim-placed (Step.Read c) h =
-      sim-begin run G (Step.Read c) (c - 1) read Work.FirstRead (from-zero mostClients c h) (λ H. refl) (λ after. refl)
+      sim-begin run G (Step.Read c) (c - 1) reads Work.FirstRead (from-zero mostClients c h) (λ H. refl) (λ after. refl)
   sim-placed (Step.Send c k) h = sim-sends run G (Step.Send c k) (c - 1) (k - 1) (firstFrom 0 (run .slots))
   sim-placed (Step.Deliver j) h = sim-delivers run G (Step.Deliver j) (j - 1)
   sim-placed (Step.Lose j) h = sim-loses run G (Step.Lose j) (j - 1)

@@ -17,7 +17,7 @@ use Rattle.guard.specs.Damage.{heardSound, workSound}
 use Rattle.guard.proofs.DamageLaws.{heard-says, client-says}
 use Rattle.run.specs.Steps.{clientAt, slotAt, changed}
 use Rattle.run.proofs.SoundLaws.{undamaged-says, sound-client}
-use Rattle.promise.specs.Events.{Kind, write, read, ending, finished}
+use Rattle.promise.specs.Events.{Kind, write, read, ending, finished, writes, reads}
 use Rattle.promise.proofs.View.{second as secondPart, Talk, ack, none, at, tells, Hears, Counts, Meets, hear, choose, find, count, finish}
 use Rattle.promise.proofs.Count.{meet}
 use Rattle.promise.proofs.Best.{with-plus, not-first, best-topped, best-either, best-kept}
@@ -112,7 +112,7 @@ module _ (run : Run) (G : Good run) (s : Step) (j : ℕ) (m : Message) (at-j : s
             (now-none Work.SecondWrite (chosenBy i b r))))
         go false t =
             by-hearing (QuorumIn (run .plan)) run i _ j
-            (hear (m .operation) write (hasOf (x .heard)) all (hasOf heard) all (x .best) b (sees (Work.FirstWrite r) wk) (hears write e bd)
+            (hear (m .operation) (writes r) (hasOf (x .heard)) all (hasOf heard) all (x .best) b (sees (Work.FirstWrite r) wk) (hears write e bd)
             (stays (Work.FirstWrite r) b wk))
 
     sim-entry : (e : Entry) → x .work ≡ Work.FirstRead → talkOf (m .body) ≡ tells read e true
@@ -131,7 +131,7 @@ module _ (run : Run) (G : Good run) (s : Step) (j : ℕ) (m : Message) (at-j : s
             (now-none Work.SecondRead b)))
         go false t =
             by-hearing (QuorumIn (run .plan)) run i _ j
-            (hear (m .operation) read (hasOf (x .heard)) all (hasOf heard) all (x .best) b (sees Work.FirstRead wk) (hears read e bd)
+            (hear (m .operation) reads (hasOf (x .heard)) all (hasOf heard) all (x .best) b (sees Work.FirstRead wk) (hears read e bd)
             (stays Work.FirstRead b wk))
 
     -- an acknowledgement, in a second part of either kind

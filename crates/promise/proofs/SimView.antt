@@ -14,7 +14,7 @@ use Rattle.heard.proofs.HeardLaws.{none-has}
 use Rattle.types.specs.Parts.{emptySlot, freshClient, storedIn}
 use Rattle.guard.specs.Damage.{isUp}
 use Rattle.run.specs.Steps.{clientAt, slotAt, cabinetAt, changed}
-use Rattle.promise.specs.Events.{write, read, Event, nothing}
+use Rattle.promise.specs.Events.{write, read, Event, nothing, writes, reads}
 use Rattle.promise.proofs.Stamps.{⊑-refl}
 use Rattle.promise.proofs.View.{Phase, idle, gone, first, second, Seat, Talk, ask, offer, stampIs, entryIs, ack, View, none, at, New, Act, Move, radio, client}
 
@@ -35,8 +35,8 @@ talkOf Body.Acknowledge = ack
 abbrev pub phaseOf : Work → (ℕ → Bool) → Entry → Phase
 phaseOf Work.Idle H b = idle
 phaseOf Work.Gone H b = gone
-phaseOf (Work.FirstWrite r) H b = first write H all b
-phaseOf Work.FirstRead H b = first read H all b
+phaseOf (Work.FirstWrite r) H b = first (writes r) H all b
+phaseOf Work.FirstRead H b = first reads H all b
 phaseOf Work.SecondWrite H b = second write H b
 phaseOf Work.SecondRead H b = second read H b
 

@@ -6,14 +6,14 @@ use mathlib.Core.Bool.{Bool, true, false}
 use mathlib.Core.Logic.{_⊎_, inl, inr}
 use Rattle.promise.specs.Names.{Entry, Stamp}
 use Rattle.cabinet.specs.Entries.{factoryEntry}
-use Rattle.promise.specs.Events.{Kind, write, read, Event, nothing, begun, chosen, finished}
+use Rattle.promise.specs.Events.{Kind, write, read, Aim, writes, reads, kindOf, Event, nothing, begun, chosen, finished}
 use Rattle.promise.proofs.Stamps.{_⊑_, ⊑-trans}
 
--- Where a client's operation stands. A first part has the cabinets heard, those of them whose reply left room for doubt, and the
+-- Where a client's operation stands. A first part has what it was begun for, the cabinets heard, those of them whose reply left room for doubt, and the
 -- entry with the largest stamp heard; a second part has the cabinets heard and the entry offered.
 pub data Phase : Type 0 where
   idle gone : Phase
-  first : Kind → (ℕ → Bool) → (ℕ → Bool) → Entry → Phase
+  first : Aim → (ℕ → Bool) → (ℕ → Bool) → Entry → Phase
   second : Kind → (ℕ → Bool) → Entry → Phase
 
 -- a client: the number of its last operation, and where that stands
@@ -123,13 +123,14 @@ module _ (Quorum : (ℕ → Bool) → Type 0) where
 
   -- what one client does
   pub data Act (v w : View) (c : ℕ) : Event → Type 0 where
-    begin : (n : ℕ) (k : Kind) (D : ℕ → Bool) → v .client c ≡ at n idle → w .client c ≡ at (n + 1) (first k none D factoryEntry)
-        → Act v w c (begun c (n + 1) k)
-    hear : (n : ℕ) (k : Kind) (H D H′ D′ : ℕ → Bool) (b b′ : Entry) → v .client c ≡ at n (first k H D b) → Hears v c n k H D b H′ D′ b′
-        → w .client c ≡ at n (first k H′ D′ b′) → Act v w c nothing
-    choose : (n : ℕ) (H D H′ D′ : ℕ → Bool) (b b′ e : Entry) → v .client c ≡ at n (first write H D b) → Hears v c n write H D b H′ D′ b′
-        → Meets v H′ D′ → Above c b′ e → w .client c ≡ at n (second write none e) → Act v w c (chosen c n e)
-    find : (n : ℕ) (H D H′ D′ : ℕ → Bool) (b b′ : Entry) → v .client c ≡ at n (first read H D b) → Hears v c n read H D b H′ D′ b′
+    begin : (n : ℕ) (q : Aim) (D : ℕ → Bool) → v .client c ≡ at n idle → w .client c ≡ at (n + 1) (first q none D factoryEntry)
+        → Act v w c (begun c (n + 1) q)
+    hear : (n : ℕ) (q : Aim) (H D H′ D′ : ℕ → Bool) (b b′ : Entry) → v .client c ≡ at n (first q H D b)
+        → Hears v c n (kindOf q) H D b H′ D′ b′ → w .client c ≡ at n (first q H′ D′ b′) → Act v w c nothing
+    choose : (n : ℕ) (H D H′ D′ : ℕ → Bool) (b b′ e : Entry) → v .client c ≡ at n (first (writes (e .reading)) H D b)
+        → Hears v c n write H D b H′ D′ b′ → Meets v H′ D′ → Above c b′ e → w .client c ≡ at n (second write none e)
+        → Act v w c (chosen c n e)
+    find : (n : ℕ) (H D H′ D′ : ℕ → Bool) (b b′ : Entry) → v .client c ≡ at n (first reads H D b) → Hears v c n read H D b H′ D′ b′
         → Meets v H′ D′ → w .client c ≡ at n (second read none b′) → Act v w c nothing
     count : (n : ℕ) (k : Kind) (H H′ : ℕ → Bool) (e : Entry) → v .client c ≡ at n (second k H e) → Counts v c n H H′
         → w .client c ≡ at n (second k H′ e) → Act v w c nothing

@@ -1,5 +1,5 @@
--- The promise is not empty: in each profile a write is begun, chosen and finished and a read then shows it, and case R1 of document 01
--- answers as printed there. By computation. Assumes nothing.
+-- The promise is not empty: in each profile a write is begun, chosen and finished and a read then shows it, and case R1 of
+-- docs/SCOPE.md (S17.12) answers as printed there. By computation. Assumes nothing.
 use Prim.Native.Nat.{ℕ, zero, suc}
 use mathlib.Core.Path.{_≡_, refl}
 use mathlib.Core.List.{List, [], _∷_}
@@ -19,7 +19,7 @@ use Rattle.run.specs.Gather.{firstFrom, othersFrom}
 use Rattle.run.specs.Start.{freshRun, startOf}
 use Rattle.run.specs.Steps.{stepOf, goOf, changed, doneAt, decideOf, clientAt, slotAt, cabinetAt}
 use Rattle.run.specs.Undamaged.{undamaged, restSound}
-use Rattle.promise.specs.Events.{write, read, Event, nothing, begun, chosen, finished, event, events}
+use Rattle.promise.specs.Events.{write, read, writes, reads, Event, nothing, begun, chosen, finished, event, events}
 
 -- so many steps without an event
 abbrev quiet : ℕ → List Event → List Event
@@ -69,18 +69,18 @@ r1 =
 pub record Worked : Type 0 where
   pub forgetful-planned : startOf 3 1 0 0 .planned ≡ Planned.Accepted (forgetfulPlan 3 1 0 0)
   pub forgetful : events (startOf 3 1 0 0 .run) p1
-      ≡ begun 0 1 write ∷ quiet 5 (chosen 0 1 (first Reading.Closed) ∷ quiet 5 (finished 0 1 write (first Reading.Closed)
-      ∷ begun 1 1 read ∷ quiet 11 (finished 1 1 read (first Reading.Closed) ∷ [])))
+      ≡ begun 0 1 (writes Reading.Closed) ∷ quiet 5 (chosen 0 1 (first Reading.Closed) ∷ quiet 5 (finished 0 1 write (first Reading.Closed)
+      ∷ begun 1 1 reads ∷ quiet 11 (finished 1 1 read (first Reading.Closed) ∷ [])))
   pub store-planned : startOf 4 1 1 2 .planned ≡ Planned.Accepted (storePlan 4 1 1 2)
   pub store : events (startOf 4 1 1 2 .run) p3
-      ≡ begun 0 1 write ∷ quiet 8 (chosen 0 1 (first (Reading.Open 6)) ∷ quiet 8 (finished 0 1 write (first (Reading.Open 6))
-      ∷ nothing ∷ begun 1 1 read ∷ quiet 17 (finished 1 1 read (first (Reading.Open 6)) ∷ [])))
+      ≡ begun 0 1 (writes (Reading.Open 6)) ∷ quiet 8 (chosen 0 1 (first (Reading.Open 6)) ∷ quiet 8 (finished 0 1 write (first (Reading.Open 6))
+      ∷ nothing ∷ begun 1 1 reads ∷ quiet 17 (finished 1 1 read (first (Reading.Open 6)) ∷ [])))
   -- R1
   pub r1-answers : answers (startOf 3 1 0 0 .run) r1
       ≡ Answer.Accepted Outcome.Begun ∷ Answer.Accepted (Outcome.Sent 1) ∷ Answer.Accepted (Outcome.Answered 1) ∷ Answer.Accepted
       (Outcome.Counted 1) ∷ Answer.Accepted Outcome.Restarted
       ∷ Answer.Accepted (Outcome.Sent 1) ∷ Answer.Accepted (Outcome.Unanswered 1) ∷ Answer.Refused Refusal.NoMessage ∷ []
-  pub r1-events : events (startOf 3 1 0 0 .run) r1 ≡ begun 0 1 write ∷ quiet 7 []
+  pub r1-events : events (startOf 3 1 0 0 .run) r1 ≡ begun 0 1 (writes (Reading.Open 6)) ∷ quiet 7 []
 
 -- every definition that a step uses is opened, so that the lists compute
 pub worked : Worked

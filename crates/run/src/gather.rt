@@ -23,6 +23,7 @@ pub fn is_empty(t: Slot) -> bool
     }
 }
 
+// S6.2, S20.3: the lowest free slot, or their number where none is free.
 pub fn first_free(slots: [Slot; MOST_SLOTS]) -> u8
     ensures { λ r. ⌜ r ≡ firstFrom 0 slots ⌝ }
 {

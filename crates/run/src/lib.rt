@@ -20,7 +20,7 @@ use types::Answer;
 use types::Client;
 use types::Slot;
 
-// Clients, cabinets and slots count from 0 here; places past n hold fresh cabinets.
+// S4.1, S20.1: clients, cabinets and slots count from 0 here; places past n hold fresh cabinets.
 pub struct Run {
     pub plan: Plan,
     pub steps: u32,

@@ -1,6 +1,7 @@
--- Each public contract decides: any two results that it allows for the same arguments are equal. That of `answer` says only which decision
--- its answer stands for, whatever the slot; no two answers stand for the same decision. `Post` is the contract as the checker reads it in
--- src/, so a weaker contract is refused here. Assumes nothing.
+-- Each public contract decides, and it asks nothing of its caller: any two results that it allows for the same arguments are equal, and it
+-- requires nothing. That of `answer` says only which decision its answer stands for, whatever the slot; no two answers stand for the same
+-- decision. `Post` and `Pre` are the contract as the checker reads it in src/, so a weaker one is refused here, and one that asks for something.
+-- Assumes nothing.
 use Prim.Native.Nat.{ℕ}
 use mathlib.Core.Path.{_≡_, sym, _∙_, ap}
 use mathlib.Core.Bool.{Bool}
@@ -32,14 +33,29 @@ back-same j m (Back.Weighs f) (Back.Weighs g) e = cc
 pub answer-decides : (κs : _) (a : _) (x y : Back) (s s′ : _) → answer.Post κs a x s → answer.Post κs a y s′ → x ≡ y
 answer-decides κs a x y s s′ p q = back-same 0 _ x y (sym (p 0) ∙ q 0)
 
+pub answer-any : (κs : _) (a : _) → answer.Pre κs a
+answer-any κs a = tt
+
 pub is-down-decides : (κs : _) (a : _) (x y : Bool) (s s′ : _) → is-down.Post κs a x s → is-down.Post κs a y s′ → x ≡ y
 is-down-decides κs a x y s s′ p q = p ∙ sym q
+
+pub is-down-any : (κs : _) (a : _) → is-down.Pre κs a
+is-down-any κs a = tt
 
 pub may-roll-decides : (κs : _) (a : _) (x y : Bool) (s s′ : _) → may-roll.Post κs a x s → may-roll.Post κs a y s′ → x ≡ y
 may-roll-decides κs a x y s s′ p q = p ∙ sym q
 
+pub may-roll-any : (κs : _) (a : _) → may-roll.Pre κs a
+may-roll-any κs a = tt
+
 pub forgets-decides : (κs : _) (a : _) (x y : Bool) (s s′ : _) → forgets.Post κs a x s → forgets.Post κs a y s′ → x ≡ y
 forgets-decides κs a x y s s′ p q = p ∙ sym q
 
+pub forgets-any : (κs : _) (a : _) → forgets.Pre κs a
+forgets-any κs a = tt
+
 pub reply-decides : (κs : _) (a : _) (x y : Slot) (s s′ : _) → reply.Post κs a x s → reply.Post κs a y s′ → x ≡ y
 reply-decides κs a x y s s′ p q = p ∙ sym q
+
+pub reply-any : (κs : _) (a : _) → reply.Pre κs a
+reply-any κs a = tt

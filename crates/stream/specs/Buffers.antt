@@ -1,4 +1,4 @@
--- The sizes of the rehearsal's buffers.
+-- The sizes of the rehearsal's buffers. No clause of docs/SCOPE.md sets them.
 use Prim.Native.Nat.{ℕ, _+_, _*_}
 use Rattle.print.specs.Rows.{room}
 

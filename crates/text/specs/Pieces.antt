@@ -1,5 +1,5 @@
--- What the functions below `parse` read, each from the front of what is left of a line. The laws in proofs/ say that these pieces make up
--- the rows of specs/Rows.antt.
+-- What the functions below `parse` read, each from the front of what is left of a line. No clause is theirs: the laws in proofs/ say
+-- that these pieces make up the rows of specs/Rows.antt.
 use Prim.Native.Nat.{ℕ, _+_}
 use mathlib.Core.Bool.{Bool, true, false, cond}
 use mathlib.Core.List.{List, [], _∷_, _++_}

@@ -1,4 +1,4 @@
--- What a row says: document 01, "Rehearsal", sentence by sentence.
+-- What a row says: clauses S16.3 to S16.10 of docs/SCOPE.md.
 use Prim.Native.Nat.{ℕ}
 use mathlib.Core.Bool.{Bool, true, false, cond, _&&_}
 use mathlib.Core.List.{List, [], _∷_}
@@ -8,7 +8,7 @@ use Rattle.text.specs.Names.{Double, Kind, Reading, Row, Said, Single, S
 use Rattle.text.specs.Fields.{same, split, isEmpty, Num, noNum, num, numberOf, byteOf}
 use Rattle.text.specs.Words.{wordOpen, wordClosed, wordUnknown, header, kindOf}
 
--- "The second is `plan` with n,k,r,b", numbers of up to seven digits
+-- S16.8: a plan has four numbers
 abbrev pub planBy : Num → Num → Num → Num → Row
 planBy noNum k r b = Row.Other
 planBy (num n) noNum r b = Row.Other
@@ -16,16 +16,17 @@ planBy (num n) (num k) noNum b = Row.Other
 planBy (num n) (num k) (num r) noNum = Row.Other
 planBy (num n) (num k) (num r) (num b) = Row.Plan n k r b
 
--- a reading, where the fields behind it are empty
+-- S16.6: a reading, where the fields behind it are empty
 abbrev pub saysIf : Bool → Reading → Said
 saysIf true r = Said.Says r
 saysIf false r = Said.Nothing
 
+-- S16.9: open has minutes
 abbrev pub openBy : Num → Bool → Said
 openBy noNum e = Said.Nothing
 openBy (num m) e = saysIf e (Reading.Open m)
 
--- the fields after the client: "`open,6,`", "`closed,,`", and `unknown,,` in the same form
+-- S16.9: the fields behind the client of a write; S16.6: closed and unknown have no minutes
 unfoldable pub readingOf : List ℕ → List ℕ → List ℕ → Said
 readingOf w m e =
     cond (same w wordOpen) (openBy (byteOf m) (isEmpty e))
@@ -33,13 +34,13 @@ readingOf w m e =
     (cond (same w wordUnknown) (saysIf (isEmpty m && isEmpty e) Reading.Unknown)
     Said.Nothing))
 
--- "write (client, reading)"
+-- S16.9: a write has a client and a reading
 abbrev pub writeBy : Num → Said → Row
 writeBy noNum r = Row.Other
 writeBy (num c) Said.Nothing = Row.Other
 writeBy (num c) (Said.Says r) = Row.Step (Step.Write c r)
 
--- "`read,1,,,`", and in the same form "deliver (slot)", "lose (slot)", "stop (cabinet)", "leave (client)", "restart (cabinet, ..)"
+-- S16.9: the kinds with one number: read, deliver, lose, stop, leave, restart
 abbrev pub oneStep : Single → ℕ → Step
 oneStep Single.Reads c = Step.Read c
 oneStep Single.Delivers s = Step.Deliver s
@@ -48,21 +49,23 @@ oneStep Single.Stops k = Step.Stop k
 oneStep Single.Leaves c = Step.Leave c
 oneStep Single.Restarts k = Step.Restart k
 
+-- S16.9: such a row; S16.6: its other fields are empty
 abbrev pub oneBy : Single → Num → Bool → Row
 oneBy k noNum e = Row.Other
 oneBy k (num a) e = cond e (Row.Step (oneStep k a)) Row.Other
 
--- "`send,1,2,,`, `rollback,2,1,,`": "send (client, cabinet)", "rollback (cabinet, j ..)"
+-- S16.9: the kinds with two: send, rollback
 abbrev pub twoStep : Double → ℕ → ℕ → Step
 twoStep Double.Sends c k = Step.Send c k
 twoStep Double.RollsBack k j = Step.Rollback k j
 
+-- S16.9: such a row; S16.6: its other fields are empty
 abbrev pub twoBy : Double → Num → Num → Bool → Row
 twoBy k noNum b e = Row.Other
 twoBy k (num a) noNum e = Row.Other
 twoBy k (num a) (num b) e = cond e (Row.Step (twoStep k a b)) Row.Other
 
--- "one step a row": a row's kind and its four other fields
+-- S16.8, S16.9: by the kind, and the four other fields
 unfoldable pub rowBy : Kind → List ℕ → List ℕ → List ℕ → List ℕ → Row
 rowBy Kind.NoKind a b c d = Row.Other
 rowBy Kind.Plans a b c d = planBy (numberOf a) (numberOf b) (numberOf c) (numberOf d)
@@ -70,7 +73,7 @@ rowBy Kind.Writes a b c d = writeBy (byteOf a) (readingOf b c d)
 rowBy (Kind.WithOne k) a b c d = oneBy k (byteOf a) (isEmpty b && (isEmpty c && isEmpty d))
 rowBy (Kind.WithTwo k) a b c d = twoBy k (byteOf a) (byteOf b) (isEmpty c && isEmpty d)
 
--- "RFC 4180 with five fields": a word and four more; "A row of another form [..] is answered 2"
+-- S16.3: four fields behind the word; S16.10: any other number of them is another form
 unfoldable pub rowAs : Kind → List (List ℕ) → Row
 rowAs k [] = Row.Other
 rowAs k (a ∷ []) = Row.Other
@@ -79,18 +82,19 @@ rowAs k (a ∷ b ∷ c ∷ []) = Row.Other
 rowAs k (a ∷ b ∷ c ∷ d ∷ []) = rowBy k a b c d
 rowAs k (a ∷ b ∷ c ∷ d ∷ e ∷ fs) = Row.Other
 
+-- S16.3: the first field is the word
 unfoldable pub rowOfFields : List (List ℕ) → Row
 rowOfFields [] = Row.Other
 rowOfFields (w ∷ fs) = rowAs (kindOf w) fs
 
--- "at most 64 bytes to a line"
+-- S16.4: the longest row
 abbrev pub mostBytes : ℕ
 mostBytes = 64
 
--- "over 64 bytes, is answered 2"
+-- S16.4, S16.10: a row, and one that is too long has another form
 unfoldable pub rowOf : List ℕ → Row
 rowOf l = cond (leb (length l) mostBytes) (rowOfFields (split l)) Row.Other
 
--- "The first row must be exactly `kind,a,b,c,d`"
+-- S16.7: the header row
 unfoldable pub isHeader : List ℕ → Bool
 isHeader l = same l header

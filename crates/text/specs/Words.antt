@@ -1,4 +1,4 @@
--- The words of a step list as byte strings, and the kinds that they name: document 01, "The steps" and "Rehearsal".
+-- The words of a step list as byte strings, and the kinds that they name: clauses S16.7 to S16.9 of docs/SCOPE.md; S20.5.
 use Prim.Native.Nat.{ℕ}
 use mathlib.Core.Bool.{cond}
 use mathlib.Core.List.{List, [], _∷_}
@@ -6,9 +6,11 @@ use Rattle.types.specs.Texts.{bytes}
 use Rattle.text.specs.Fields.{same}
 use Rattle.text.specs.Names.{Double, Kind, Single}
 
+-- S16.8: the word of a plan
 abbrev pub wordPlan : List ℕ
 wordPlan = bytes "plan"
 
+-- S16.9: the words of the nine kinds of step
 abbrev pub wordWrite : List ℕ
 wordWrite = bytes "write"
 
@@ -36,6 +38,7 @@ wordRestart = bytes "restart"
 abbrev pub wordRollback : List ℕ
 wordRollback = bytes "rollback"
 
+-- S16.9: the words of a reading
 abbrev pub wordOpen : List ℕ
 wordOpen = bytes "open"
 
@@ -45,19 +48,20 @@ wordClosed = bytes "closed"
 abbrev pub wordUnknown : List ℕ
 wordUnknown = bytes "unknown"
 
--- "The first row must be exactly `kind,a,b,c,d`"
+-- S16.7: the header row
 abbrev pub header : List ℕ
 header = bytes "kind,a,b,c,d"
 
--- a kind and the word that names it
+-- S16.9: a kind and the word that names it
 pub record Named : Type 0 where
   pub word : List ℕ
   pub kind : Kind
 
+-- S16.9: such a pair
 abbrev pub named : List ℕ → Kind → Named
 named w k = record { word = w; kind = k }
 
--- "The second is `plan`", and the nine steps, each by its name
+-- S16.8, S16.9, S5.1: the plan and the nine kinds of step, each by its word
 abbrev pub kinds : List Named
 kinds =
     named wordPlan Kind.Plans
@@ -72,10 +76,11 @@ kinds =
     ∷ named wordRollback (Kind.WithTwo Double.RollsBack)
     ∷ []
 
--- the kind that a word names, by the first entry that has it
+-- S16.9: the kind that a word names, by the first entry that has it
 unfoldable pub kindIn : List Named → List ℕ → Kind
 kindIn [] w = Kind.NoKind
 kindIn (n ∷ ns) w = cond (same w (n .word)) (n .kind) (kindIn ns w)
 
+-- S16.9, S16.10: the kind that a word names, or none
 abbrev pub kindOf : List ℕ → Kind
 kindOf w = kindIn kinds w

@@ -156,7 +156,7 @@ pub fn parse(line: &[u8]) -> Row
     row_as(kind, &line[end..])
 }
 
-// Whether the line is exactly the header row.
+// S16.7, S20.5: whether the line is exactly the header row.
 pub fn is_header(line: &[u8]) -> bool
     ensures { λ r. ⌜ r ≡ isHeader (now (line .entry)) ⌝ }
 {

@@ -1,8 +1,8 @@
--- What the public contracts decide: any two outcomes that one allows for the same arguments agree on it. `fresh` decides its result. `feed`
--- decides every byte of the buffer, where its text ends, the phase, the next row's number, the run and what is held of a row. `finish` decides
--- its result and every byte of the buffer. Not decided: of a row that is too long, by which length above `mostLine` `feed` says so; and the bytes of
--- the row's array that are not held of a row, after `finish` all of them. `Post` is the contract as the checker reads it in src/, so a weaker
--- contract is refused here. Assumes nothing.
+-- What the public contracts decide: any two outcomes that one allows for the same arguments agree on it. `fresh` decides its result, and asks
+-- nothing of its caller. `feed` decides every byte of the buffer, where its text ends, the phase, the next row's number, the run and what is held
+-- of a row. `finish` decides its result and every byte of the buffer. Not decided: of a row that is too long, by which length above `mostLine`
+-- `feed` says so; and the bytes of the row's array that are not held of a row, after `finish` all of them. `Post` and `Pre` are the contract as the
+-- checker reads it in src/, so a weaker one is refused here, and for `fresh` one that asks for something. Assumes nothing.
 use Prim.Native.Nat.{ℕ, _≤_}
 use native.Mathlib.Omega.{arith}
 use mathlib.Core.Bool.{Bool, true, false, cond}
@@ -22,6 +22,9 @@ use Rattle.transcript.proofs.bytes.fresh.Reads as fresh
 
 pub fresh-decides : (κs : _) (a : _) (x y : Fed) (s s′ : _) → fresh.Post κs a x s → fresh.Post κs a y s′ → x ≡ y
 fresh-decides κs a x y s s′ p q = p ∙ sym q
+
+pub fresh-any : (κs : _) (a : _) → fresh.Pre κs a
+fresh-any κs a = tt
 
 pub feed-decides : (κs : _) (a : _) (r r′ : Fed) (s s′ : _) → feed.Post κs a r s → feed.Post κs a r′ s′
     → (r .kept .at ≡ r′ .kept .at)

@@ -1,4 +1,4 @@
--- The bytes of a row so far, as the machine holds them, and what it sees in them: the same as the document. Assumes nothing.
+-- The bytes of a row so far, as the machine holds them, and what it sees in them: the same as Rehearsal.antt. Assumes nothing.
 use Prim.Native.Nat.{ℕ, _+_, _-_, _<_, _≤_}
 use native.Mathlib.Numerals.{add-one}
 use native.Mathlib.Omega.{arith}
@@ -58,7 +58,7 @@ long-head : (l : List ℕ) → mostBytes < length l → false ≡ isHeader l
 unfolding isHeader
 long-head l h = same-lengths l header (λ e. omega arith)
 
--- what sees each row as the document does sees so what is held, at an LF and at the input's end
+-- what sees each row as Rehearsal.antt does sees so what is held, at an LF and at the input's end
 module _ (A : Type 0) (seen : Held → A) (of : List ℕ → A) (line : (l : List ℕ) → seen (Line l) ≡ of l) (long : (l : List ℕ) → mostBytes < length l → seen Over ≡ of l) where
   seen-lf : (p : List ℕ) → seen (short (holds p)) ≡ of (unended p)
   seen-lf p = go (leb (length p) mostLine) refl

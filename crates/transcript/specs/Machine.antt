@@ -1,4 +1,5 @@
--- The rehearsal as a machine that is fed bytes and says bytes: its state, one byte, several, and the input's end.
+-- The rehearsal as a machine that is fed bytes and says bytes: its state, one byte, several, and the input's end. No clause is its
+-- own: it says what Rehearsal.antt says.
 use Prim.Native.Nat.{ℕ, _+_, _≤_}
 use mathlib.Core.Bool.{Bool, true, false, cond}
 use mathlib.Core.List.{List, [], _∷_, _++_}

@@ -1,4 +1,5 @@
--- Whole step rows, one after another: their bytes, the steps that they ask for, and what is written of these.
+-- Whole step rows, one after another: their bytes, the steps that they ask for, and what is written of these: clause S16.9 of
+-- docs/SCOPE.md as the loop goes through it.
 use Prim.Native.Nat.{ℕ, _+_, _*_, _≤_}
 use mathlib.Core.Bool.{true}
 use mathlib.Core.List.{List, [], _∷_, _++_}
@@ -13,27 +14,27 @@ use Rattle.text.specs.Rows.{rowOf}
 use Rattle.print.specs.Put.{put}
 use Rattle.print.specs.Rows.{stepText, room}
 
--- lines, each with its LF, whose byte is 10
+-- S16.2: lines, each with its LF, whose byte is 10
 unfoldable pub closed : List (List ℕ) → List ℕ
 closed [] = []
 closed (l ∷ ls) = l ++ (10 ∷ closed ls)
 
--- how many LFs are in the lines themselves
+-- S16.2: how many LFs are in the lines themselves
 unfoldable pub breaksIn : List (List ℕ) → ℕ
 breaksIn [] = 0
 breaksIn (l ∷ ls) = breaks l + breaksIn ls
 
--- the steps that lines ask for
+-- S16.9: the steps that lines ask for
 unfoldable pub stepsIn : List (List ℕ) → List Step
 stepsIn [] = []
 stepsIn (l ∷ ls) = stepIn (rowOf (unended l)) ∷ stepsIn ls
 
--- "Then one step a row": what is written of steps, the first of which stands in row n
+-- S17.1, S17.2: what is written of steps, the first of which stands in row n
 unfoldable pub textAll : ℕ → Run → List Step → List ℕ
 textAll n run [] = []
 textAll n run (x ∷ xs) = stepText n (stepOf run x .answer) ++ textAll (n + 1) (stepOf run x .run) xs
 
--- all whole rows of s are answered: the buffer, d before, is e after
+-- S16.9: all whole rows of s are answered: the buffer, d before, is e after
 pub record Took (s : List ℕ) (at row : ℕ) (run : Run) (d e : List ℕ) (r : Went) : Type 0 where
   pub lines : List (List ℕ)
   pub within : r .used ≤ length s

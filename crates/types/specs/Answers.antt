@@ -1,32 +1,33 @@
--- The numbers that come back and what an output row shows, in the order of document 01's table.
+-- The numbers that come back: clauses S12.0 to S12.11 of docs/SCOPE.md; S18.7: each case of an answer has its number.
 use Prim.Native.Nat.{ℕ}
 use Rattle.types.specs.Names.{Answer, Refusal}
 
+-- S5.2, S18.7: the number of a refusal
 abbrev pub refusalNumber : Refusal → ℕ
--- "the run is damaged"
+-- S12.1: damaged
 refusalNumber Refusal.Damaged = 1
--- "unknown kind, or client, cabinet (1 to n), slot, j, reading or plan number out of range"
+-- S12.2: no kind, or a number out of range
 refusalNumber Refusal.Range = 2
--- "1,000,000 steps already accepted"
+-- S12.3: no step more
 refusalNumber Refusal.Limit = 3
--- "the client of write, read, send or leave has left"
+-- S12.4: the client is gone
 refusalNumber Refusal.HasLeft = 4
--- "write or read for a client that isn't idle"
+-- S12.5: one operation at a time
 refusalNumber Refusal.NotIdle = 5
--- "send for an idle client"
+-- S12.6: nothing to send
 refusalNumber Refusal.IsIdle = 6
--- "send, and all 64 slots hold a message"
+-- S12.7: no room on the air
 refusalNumber Refusal.Full = 7
--- "deliver or lose of an empty slot"
+-- S12.8: nothing there
 refusalNumber Refusal.NoMessage = 8
--- "stop of a cabinet that is down"
+-- S12.9: down already
 refusalNumber Refusal.IsDown = 9
--- "rollback: no store, or fewer than j older versions kept"
+-- S12.10: nothing so old is kept
 refusalNumber Refusal.NoVersion = 10
--- "rollback of a cabinet not yet marked, when r or more others are marked"
+-- S12.11: one cabinet too many
 refusalNumber Refusal.TooMany = 11
 
--- "0 is accepted"
+-- S12.0: accepted is 0
 abbrev pub answerNumber : Answer → ℕ
 answerNumber (Answer.Accepted o) = 0
 answerNumber (Answer.Refused w) = refusalNumber w

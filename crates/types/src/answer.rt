@@ -2,7 +2,7 @@
 use cabinet::Entry;
 use cabinet::Power;
 
-// In the order of the numbers 1 to 11.
+// S12.1 to S12.11, in the order of the numbers.
 pub enum Refusal {
     Damaged,
     Range,
@@ -17,7 +17,7 @@ pub enum Refusal {
     TooMany,
 }
 
-// How a part ended.
+// S8.5, S8.6, S8.7: how a part ended.
 pub enum Ending {
     Chosen,
     Found,
@@ -25,7 +25,7 @@ pub enum Ending {
     Read,
 }
 
-// With the slot, counted from 1, of a send, a deliver or a lose, and the entry of a part that ended.
+// S5.2: what an accepted step came to. With the slot, counted from 1, of a send, a deliver or a lose, and the entry of a part that ended.
 pub enum Outcome {
     Begun,
     Sent(u8),
@@ -41,6 +41,7 @@ pub enum Outcome {
     RolledBack,
 }
 
+// S5.2: refused or accepted.
 pub enum Answer {
     Refused(Refusal),
     Accepted(Outcome),

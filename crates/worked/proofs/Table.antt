@@ -1,4 +1,4 @@
--- Every worked case comes out as document 01 says: one equation, by computation. Assumes nothing.
+-- Every worked case comes out as docs/SCOPE.md says (S18.5): one equation, by computation. Assumes nothing.
 use mathlib.Core.Path.{_≡_, refl}
 use mathlib.Core.List.{map}
 use Rattle.plan.specs.Rule.{planOf, chosen, inRange}

@@ -1,0 +1,3 @@
+pub mod BehindLaws
+pub mod EventLaws
+pub mod Served

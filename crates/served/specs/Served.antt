@@ -1,0 +1,53 @@
+-- A list of steps over a lent table (clauses S14.1 to S14.4 of docs/SCOPE.md): each goes to the run and the table that the one before
+-- left; what is answered, and the events of it.
+use mathlib.Core.List.{List, [], _∷_}
+use lib.ListN.{replicate}
+use Rattle.served.specs.Names.{Answer, Cabinet, Lent, Run, Step}
+use Rattle.cabinet.specs.Cabinets.{freshCabinet}
+use Rattle.run.specs.Steps.{stepOf}
+use Rattle.desk.specs.Desk.{lentOf, tableOf}
+use Rattle.promise.specs.Events.{Event, nothing, answerEvent}
+
+-- ---- the answers
+
+-- S14.2: what a list is answered
+abbrev pub lentAnswers : Run → List Cabinet → List Step → List Lent
+lentAnswers run table [] = []
+lentAnswers run table (s ∷ ss) = lentOf run table s .answer ∷ lentAnswers (lentOf run table s .run) (tableOf run table s) ss
+
+-- S14.2: what it is answered at the first entrance
+abbrev pub ownAnswers : Run → List Step → List Answer
+ownAnswers run [] = []
+ownAnswers run (s ∷ ss) = stepOf run s .answer ∷ ownAnswers (stepOf run s .run) ss
+
+-- ---- the run and the table after the list
+
+-- S14.4: the run after the list
+abbrev pub lentRun : Run → List Cabinet → List Step → Run
+lentRun run table [] = run
+lentRun run table (s ∷ ss) = lentRun (lentOf run table s .run) (tableOf run table s) ss
+
+-- S14.3: the table after the list
+abbrev pub lentTable : Run → List Cabinet → List Step → List Cabinet
+lentTable run table [] = table
+lentTable run table (s ∷ ss) = lentTable (lentOf run table s .run) (tableOf run table s) ss
+
+-- ---- the events: those of crate promise, read off the answer and the desk's own run before and after the step
+
+-- S19.6: the event of an answer; 14 has none
+abbrev pub lentEventBy : Lent → Run → Step → Run → Event
+lentEventBy Lent.WrongLength run s after = nothing
+lentEventBy (Lent.Answered a) run s after = answerEvent run s after a
+
+-- S19.6: the event of one step
+unfoldable pub lentEvent : Run → List Cabinet → Step → Event
+lentEvent run table s = lentEventBy (lentOf run table s .answer) run s (lentOf run table s .run)
+
+-- S19.6: of each step of a list
+abbrev pub lentEvents : Run → List Cabinet → List Step → List Event
+lentEvents run table [] = []
+lentEvents run table (s ∷ ss) = lentEvent run table s ∷ lentEvents (lentOf run table s .run) (tableOf run table s) ss
+
+-- S4.4: a table for a fresh run, of n fresh records
+abbrev pub freshTable : Run → List Cabinet
+freshTable run = replicate (run .plan .n) freshCabinet
