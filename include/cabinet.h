@@ -31,8 +31,8 @@ extern "C" {
 #define CABINET_TAKEN 20
 /* The offered stamp is less than the held one or equal to it, whatever the readings: held is unchanged. */
 #define CABINET_KEPT 21
-/* A length isn't 20, a writer exceeds 8, a reading is above 2 or below 0, or minutes break their rule, in either
-   buffer: both buffers are unchanged. */
+/* One of the buffers is no entry: it has not 20 bytes, or a number that the table above does not allow. Neither
+   buffer has changed. */
 #define CABINET_REFUSED 2
 
 /* Returns one of the three above; offered never changes. Lengths are in bytes.
