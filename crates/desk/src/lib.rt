@@ -9,6 +9,10 @@ pub use entrance::step_lent;
 use limits::MOST_CABINETS;
 use run::Run;
 use types::Answer;
+pub use view::count;
+pub use view::few;
+pub use view::none_lent;
+pub use view::with_record;
 
 // Beside the answers of a step on a run of its own: the table has not n records, which is answer 14.
 pub enum Lent {

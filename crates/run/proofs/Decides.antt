@@ -10,6 +10,7 @@ use Rattle.run.proofs.gather.is_empty.Reads as is-empty
 use Rattle.run.proofs.gather.others_marked.Reads as others-marked
 use Rattle.run.proofs.gather.sight.Reads as sight
 use Rattle.run.proofs.guarded.undamaged.Reads as undamaged
+use Rattle.run.proofs.steps.go.Reads as go
 use Rattle.run.proofs.steps.take.Reads as take
 
 pub start-decides : (κs : _) (a : _) (x y : Started) (s s′ : _) → start.Post κs a x s → start.Post κs a y s′ → x ≡ y
@@ -29,6 +30,9 @@ take-decides κs a x y s s′ p q = p ∙ sym q
 
 pub take-any : (κs : _) (a : _) → take.Pre κs a
 take-any κs a = tt
+
+pub go-decides : (κs : _) (a : _) (x y : Stepped) (s s′ : _) → go.Post κs a x s → go.Post κs a y s′ → x ≡ y
+go-decides κs a x y s s′ p q = p ∙ sym q
 
 pub is-empty-decides : (κs : _) (a : _) (x y : Bool) (s s′ : _) → is-empty.Post κs a x s → is-empty.Post κs a y s′ → x ≡ y
 is-empty-decides κs a x y s s′ p q = p ∙ sym q

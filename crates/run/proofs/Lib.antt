@@ -5,6 +5,7 @@ pub mod FitLaws
 pub mod FrameLaws
 pub mod GatherLaws
 pub mod GuardLaws
+pub mod ListLaws
 pub mod MeetLaws
 pub mod ShapeLaws
 pub mod SoundLaws

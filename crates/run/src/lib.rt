@@ -15,6 +15,7 @@ use limits::MOST_CLIENTS;
 use limits::MOST_SLOTS;
 use plan::Plan;
 use plan::Planned;
+pub use steps::go;
 pub use steps::take;
 use types::Answer;
 use types::Client;

@@ -36,11 +36,6 @@ unfolding stepsIn
 steps-length [] = refl
 steps-length (l ∷ ls) = ap suc (steps-length ls)
 
-pub run-more : (run : Run) (xs : List Step) (x : Step) → runAll run (xs ++ (x ∷ [])) ≡ stepOf (runAll run xs) x .run
-unfolding runAll
-run-more run [] x = refl
-run-more run (y ∷ xs) x = run-more (stepOf run y .run) xs x
-
 pub text-more : (n : ℕ) (run : Run) (xs : List Step) (x : Step)
     → textAll n run (xs ++ (x ∷ [])) ≡ textAll n run xs ++ stepText (n + length xs) (stepOf (runAll run xs) x .answer)
 unfolding textAll runAll

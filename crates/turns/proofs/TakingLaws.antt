@@ -10,6 +10,7 @@ use Rattle.turns.specs.Names.{Run, Step, Stepped}
 use Rattle.run.specs.Lists.{runAll}
 use Rattle.run.specs.Steps.{stepOf}
 use Rattle.run.specs.Undamaged.{undamaged}
+use Rattle.run.proofs.ListLaws.{run-more}
 use Rattle.run.proofs.UndamagedLaws.{step-undamaged}
 use Rattle.text.specs.Ends.{breaks, OneRow}
 use Rattle.text.proofs.BreakLaws.{breaks-append, breaks-lf}
@@ -17,7 +18,7 @@ use Rattle.print.specs.Put.{put, Wrote}
 use Rattle.print.specs.Rows.{stepText, room}
 use Rattle.print.proofs.PutLaws.{put-none, length-put, after}
 use Rattle.turns.specs.Turns.{closed, breaksIn, stepsIn, textAll, Took}
-use Rattle.turns.proofs.LineLaws.{closed-more, unbroken-more, steps-more, steps-length, run-more, text-more}
+use Rattle.turns.proofs.LineLaws.{closed-more, unbroken-more, steps-more, steps-length, text-more}
 
 -- what a part, the buffer d at `at`, the row number and the run have become after i bytes
 pub record Taking (s : List ℕ) (at row : ℕ) (run : Run) (d : List ℕ) (i : ℕ) (e : List ℕ) (o n : ℕ) (held : Run) : Type 0 where

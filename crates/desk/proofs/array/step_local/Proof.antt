@@ -1,10 +1,9 @@
 -- `step_local` meets its contract, by a walk of its code: the table is copied, its first records are lent to `step_lent`, and the answer is
--- put together (`Lend`). What the callees do is in `Callees`, what the locals hold in `Here`, the copy in memory in `Records`; what the
--- walk shares with that of `step_lent` is in `proofs/entrance`. Assumes nothing.
+-- put together (`Lend`). What the callees do is in `Callees`, what the locals hold in `Here`, the copy in memory and
+-- what the walk shares with that of `step_lent` in `proofs/Walk`. Assumes nothing.
 mod Callees
 mod Here
 mod Lend
-mod Records
 use mathlib.Core.Path.{refl, sym}
 use Prim.Native.Nat.{ℕ}
 use mathlib.Core.List.{List, [], _∷_}
@@ -47,9 +46,9 @@ use Rattle.desk.proofs.array.step_local.Statement.{statement}
 use Rattle.desk.proofs.array.step_local.Proof.Callees.{Few, StepLent, Pack, Knows, few-of}
 use Rattle.desk.proofs.array.step_local.Proof.Here.{the-run, the-table, the-len, the-step, the-copy, the-few, the-whole, the-slice, slice, lie, Passed, few, few-fits, entered}
 use Rattle.desk.proofs.array.step_local.Proof.Lend.{stayed, args, vals, Post, Goes, lends}
-use Rattle.desk.proofs.entrance.ByValue.{usize-data, typed, calls-value}
-use Rattle.desk.proofs.entrance.Locals.{at, backwards, locals, here, its}
-use Rattle.desk.proofs.entrance.Values.{run-data, step-data, records-data}
+use Rattle.desk.proofs.Walk.ByValue.{usize-data, typed, calls-value}
+use Rattle.desk.proofs.Walk.Locals.{at, backwards, locals, here, its}
+use Rattle.desk.proofs.Walk.Values.{run-data, step-data, records-data}
 
 module _ {M : Type 1} {𝓤 : URA M} {H : Heap 𝓤} {A : Atoms 𝓤} (W : Given 𝓤 H A) (at-mem : Memory → SProp 𝓤) (run : Routine → Fun 𝓤)
     (P : Passed) (𝓣 : Tables 𝓤 H) (known : Knows 𝓤 H A at-mem run (𝓣 .C)) where

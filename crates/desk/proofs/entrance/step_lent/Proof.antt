@@ -1,6 +1,6 @@
 -- `step_lent` meets its contract, by a walk of its code. Where the table has not n records the step is refused. Otherwise the borrow is
 -- opened once, the loop copies each record into the nine (`Loop`), and what comes after is in `Exit`. What the callees do is in `Callees`,
--- what the locals hold from part to part in `Here`; a call by value and the place of a local are in `proofs/entrance`.
+-- what the locals hold from part to part in `Here`; a call by value and the place of a local are in `proofs/Walk`.
 -- Assumes nothing.
 mod Callees
 mod Exit
@@ -60,12 +60,12 @@ use Rattle.desk.proofs.entrance.step_lent.Code as code
 use Rattle.desk.proofs.entrance.step_lent.Code.Mir as parts
 use Rattle.desk.proofs.entrance.step_lent.Key.{name as #step-lent}
 use Rattle.desk.proofs.entrance.step_lent.Statement.{statement}
-use Rattle.desk.proofs.entrance.Values.{cabinet-data, run-data, step-data, nine-data, served-data}
-use Rattle.desk.proofs.entrance.ByValue.{usize-data, typed, calls-value}
+use Rattle.desk.proofs.Walk.Values.{cabinet-data, run-data, step-data, nine-data, served-data}
+use Rattle.desk.proofs.Walk.ByValue.{usize-data, typed, calls-value}
 use Rattle.desk.proofs.entrance.step_lent.Proof.Callees.{Count, Refuse, NoneLent, WithRecord, Make, MetBy, Serve, Knows, count-of, refuse-of, none-lent-of}
 use Rattle.desk.proofs.entrance.step_lent.Proof.Exit.{stayed, args, vals, Post, exits}
 use Rattle.desk.proofs.entrance.step_lent.Proof.Here.{the-answer, the-run, the-table, the-step, the-n, the-lent, the-i, the-length, the-test, the-end, lie, Lent, passed, entered, counted, Shut, Turning}
-use Rattle.desk.proofs.entrance.Locals.{Cell, at, span, backwards, put, frees-locals, here, its, its-part}
+use Rattle.desk.proofs.Walk.Locals.{Cell, at, span, backwards, put, frees-locals, here, its, its-part}
 use Rattle.desk.proofs.entrance.step_lent.Proof.Loop.{Nearer, Nearer-wf, turns}
 
 module _ {M : Type 1} {𝓤 : URA M} {H : Heap 𝓤} {A : Atoms 𝓤} (W : Given 𝓤 H A) (at-mem : Memory → SProp 𝓤) (run : Routine → Fun 𝓤)

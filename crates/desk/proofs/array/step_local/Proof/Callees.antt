@@ -20,8 +20,8 @@ use Rattle.desk.proofs.view.pack as pack
 use Rattle.desk.proofs.view.pack.Symbol.{name as #pack}
 use Rattle.desk.proofs.entrance.step_lent as step-lent
 use Rattle.desk.proofs.entrance.step_lent.Symbol.{name as #step-lent}
-use Rattle.desk.proofs.entrance.ByValue.{usize-data, IsIt, asked, clause, Returns}
-use Rattle.desk.proofs.entrance.Values.{served-data, local-data, records-data}
+use Rattle.desk.proofs.Walk.ByValue.{usize-data, IsIt, asked, clause, Returns}
+use Rattle.desk.proofs.Walk.Values.{served-data, local-data, records-data}
 
 module _ {M : Type 1} (𝓤 : URA M) (H : Heap 𝓤) (A : Atoms 𝓤) (at-mem : Memory → SProp 𝓤) (run : Routine → Fun 𝓤) where
   abbrev pub Few : Contract 𝓤

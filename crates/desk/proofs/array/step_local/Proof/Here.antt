@@ -14,10 +14,10 @@ use Rattle.run.proofs.Run.Laws as run-laws
 use Rattle.desk.proofs.Local.Laws as local-laws
 use Rattle.desk.proofs.Served.Laws as served-laws
 use Rattle.desk.proofs.ViewLaws.{cap-length}
-use Rattle.desk.proofs.array.step_local.Proof.Records.{array}
-use Rattle.desk.proofs.entrance.ByValue.{IsIt}
-use Rattle.desk.proofs.entrance.Locals.{Cell, all-empty, put}
-use Rattle.desk.proofs.entrance.Values.{cabinet-data, run-data, step-data, served-data, records-data}
+use Rattle.desk.proofs.Walk.Records.{array}
+use Rattle.desk.proofs.Walk.ByValue.{IsIt}
+use Rattle.desk.proofs.Walk.Locals.{Cell, all-empty, put}
+use Rattle.desk.proofs.Walk.Values.{cabinet-data, run-data, step-data, served-data, records-data}
 
 -- ---- the locals, as the code numbers them
 

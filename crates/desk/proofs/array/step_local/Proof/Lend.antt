@@ -44,11 +44,11 @@ use Rattle.desk.proofs.array.step_local as step-local
 use Rattle.desk.proofs.array.step_local.Code.Mir as parts
 use Rattle.desk.proofs.array.step_local.Proof.Callees.{StepLent, Pack, Knows, pack-of}
 use Rattle.desk.proofs.array.step_local.Proof.Here.{the-answer, the-run, the-step, the-copy, the-served, the-slice, the-packed, lie, Passed, few, front, back, room, pointing, stepped}
-use Rattle.desk.proofs.array.step_local.Proof.Records.{array, array-out, array-in, apart, joined}
+use Rattle.desk.proofs.Walk.Records.{array, array-out, array-in, apart, joined}
 use Rattle.desk.proofs.entrance.step_lent as step-lent
-use Rattle.desk.proofs.entrance.ByValue.{usize-data, IsIt, value, typed, calls-value}
-use Rattle.desk.proofs.entrance.Locals.{put, at, span, locals, frees-locals, here, its}
-use Rattle.desk.proofs.entrance.Values.{cabinet-data, run-data, step-data, served-data, local-data, records-data}
+use Rattle.desk.proofs.Walk.ByValue.{usize-data, IsIt, value, typed, calls-value}
+use Rattle.desk.proofs.Walk.Locals.{put, at, span, locals, frees-locals, here, its}
+use Rattle.desk.proofs.Walk.Values.{cabinet-data, run-data, step-data, served-data, local-data, records-data}
 
 abbrev R : RattleType
 R = cabinet-data .row

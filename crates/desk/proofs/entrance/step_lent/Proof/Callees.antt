@@ -31,8 +31,8 @@ use Rattle.desk.proofs.view.met_by as met-by
 use Rattle.desk.proofs.view.met_by.Symbol.{name as #met-by}
 use Rattle.desk.proofs.view.serve as serve
 use Rattle.desk.proofs.view.serve.Symbol.{name as #serve}
-use Rattle.desk.proofs.entrance.ByValue.{usize-data, IsIt, asked, clause, Returns}
-use Rattle.desk.proofs.entrance.Values.{cabinet-data, run-data, nine-data, met-data, made-data, served-data, step-data}
+use Rattle.desk.proofs.Walk.ByValue.{usize-data, IsIt, asked, clause, Returns}
+use Rattle.desk.proofs.Walk.Values.{cabinet-data, run-data, nine-data, met-data, made-data, served-data, step-data}
 
 -- ---- the contracts
 

@@ -26,9 +26,9 @@ use Rattle.desk.proofs.Nine.Laws as nine-laws
 use Rattle.desk.proofs.Made.Laws as made-laws
 use Rattle.desk.proofs.Met.Laws as met-laws
 use Rattle.desk.proofs.Served.Laws as served-laws
-use Rattle.desk.proofs.entrance.Values.{cabinet-data, run-data, step-data, nine-data, met-data, made-data}
-use Rattle.desk.proofs.entrance.ByValue.{IsIt}
-use Rattle.desk.proofs.entrance.Locals.{Cell, all-empty, put, locals}
+use Rattle.desk.proofs.Walk.Values.{cabinet-data, run-data, step-data, nine-data, met-data, made-data}
+use Rattle.desk.proofs.Walk.ByValue.{IsIt}
+use Rattle.desk.proofs.Walk.Locals.{Cell, all-empty, put, locals}
 
 -- ---- the locals, as the code numbers them
 

@@ -35,12 +35,12 @@ use Rattle.desk.specs.View.{noneLent, lentAt}
 use Rattle.desk.proofs.Truth.{not-of}
 use Rattle.desk.proofs.ViewLaws.{laid}
 use Rattle.desk.proofs.entrance.step_lent.Code.Mir as code
-use Rattle.desk.proofs.entrance.Values.{cabinet-data, nine-data}
-use Rattle.desk.proofs.entrance.ByValue.{IsIt, typed, calls-value}
+use Rattle.desk.proofs.Walk.Values.{cabinet-data, nine-data}
+use Rattle.desk.proofs.Walk.ByValue.{IsIt, typed, calls-value}
 use Rattle.desk.proofs.entrance.step_lent.Proof.Callees.{WithRecord, Knows, with-record-of}
 use Rattle.desk.proofs.entrance.step_lent.Proof.Exit.{Post, after-loop}
 use Rattle.desk.proofs.entrance.step_lent.Proof.Here.{the-table, the-lent, the-i, turn-word, turn-test, turn-place, turn-record, lie, Lent, State, distance-fits, Turning}
-use Rattle.desk.proofs.entrance.Locals.{at, here, its, its-part}
+use Rattle.desk.proofs.Walk.Locals.{at, here, its, its-part}
 
 -- ---- the loop's state
 

@@ -23,7 +23,7 @@ use denote.Steps.{nothing}
 use denote.Struct.Steps.{spelt}
 use Rattle.desk.specs.Names.{Cabinet}
 use Rattle.cabinet.proofs.record.Cabinet.Laws as cabinet-laws
-use Rattle.desk.proofs.entrance.Values.{cabinet-data, records-data}
+use Rattle.desk.proofs.Walk.Values.{cabinet-data, records-data}
 
 abbrev R : RattleType
 R = cabinet-data .row

@@ -19,7 +19,7 @@ use Rattle.desk.proofs.Met as met
 use Rattle.desk.proofs.Met.Laws as met-laws
 use Rattle.desk.proofs.Served as served
 use Rattle.desk.proofs.Served.Laws as served-laws
-use Rattle.desk.proofs.entrance.ByValue.{Data, struct-data}
+use Rattle.desk.proofs.Walk.ByValue.{Data, struct-data}
 
 abbrev pub cabinet-data : Data
 cabinet-data = struct-data cabinet.the-type cabinet-laws.the-laws cabinet-laws.the-plain

@@ -1,10 +1,10 @@
--- What `take` needs in the arm of a delivery: of nothing, of a request and of a reply. Assumes nothing.
+-- What `go` needs in the arm of a delivery: of nothing, of a request and of a reply. Assumes nothing.
 use Prim.Native.Nat.{_<_}
 use Rattle.limits.specs.Limits.{mostCabinets, mostClients, mostSlots}
 use Rattle.run.proofs.ArmLaws.{delivers-place, delivers-nothing, request-silent, request-says, request-weighs, reply-nothing, reply-counts, reply-ends}
 use Rattle.run.proofs.FitLaws.{client-best, request-places, reply-places, reply-told}
-use Rattle.run.proofs.steps.take.Proof.Here.{Inv-loop, μ-loop, held, sound, here, end}
-use Rattle.run.proofs.steps.take.Tie as tie
+use Rattle.run.proofs.steps.go.Proof.Here.{Inv-loop, μ-loop, held, sound, here, end}
+use Rattle.run.proofs.steps.go.Tie as tie
 
 -- ---- the places that the arms were given are the run's
 

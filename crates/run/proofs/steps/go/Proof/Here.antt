@@ -1,16 +1,15 @@
--- What the one turn of `take` keeps, and what its arms need of the place behind admission, which every arm passes. Assumes nothing.
+-- What the one turn of `go` keeps, and what its arms need of the place behind admission, which every arm passes. Assumes nothing.
 use Prim.Native.Nat.{_≤_, _<_}
 use mathlib.Core.Bool.{Bool, true, false, cond}
-use mathlib.Core.Path.{_≡_, refl, sym, ap, subst, _∙_}
+use mathlib.Core.Path.{_≡_, sym, ap, subst, _∙_}
 use native.Mathlib.Omega.{arith}
 use Rattle.limits.specs.Limits.{mostSteps}
-use Rattle.run.specs.Names.{Answer, Refusal, Run, Step, Stepped}
+use Rattle.run.specs.Names.{Answer, Run, Step, Stepped}
 use Rattle.run.specs.Steps.{stepOf}
 use Rattle.run.specs.Undamaged.{undamaged}
 use Rattle.run.proofs.ArmLaws.{Admitted}
 use Rattle.run.proofs.FitLaws.{steps-most}
-use Rattle.run.proofs.FrameLaws.{step-damaged}
-use Rattle.run.proofs.steps.take.Tie as tie
+use Rattle.run.proofs.steps.go.Tie as tie
 
 -- a step that is due finds the run whole and as it came; after it the answer and the run are the step's
 abbrev pub Doing : Run → Step → Bool → Answer → Run → Type 0
@@ -23,11 +22,6 @@ Inv-loop s run₀ says₀ due₀ run says due = Doing run₀ s due says run
 abbrev pub μ-loop : tie.MeasureT-loop
 μ-loop s run₀ says₀ due₀ run says due = cond due 1 0
 
--- a damaged run is answered before the loop
-pub starts : (run : Run) (s : Step) (b : Bool) → b ≡ undamaged run → Doing run s b (Answer.Refused Refusal.Damaged) run
-starts run s true e = (sym e, refl)
-starts run s false e = step-damaged run s (sym e)
-
 pub ends : (run₀ : Run) (s : Step) (b : Bool) (says : Answer) (run : Run) → Doing run₀ s b says run → b ≡ false
     → _≡_ {A = Stepped} (record { answer = says; run = run }) (stepOf run₀ s)
 ends run₀ s b says run inv e = sym (subst (λ (d : Bool). Doing run₀ s d says run) e inv)
@@ -38,7 +32,7 @@ abbrev pub Here : Type 0
 Here = tie.After-admit Inv-loop μ-loop
 
 abbrev call : Here → tie.Start Inv-loop μ-loop
-call h = h .before .before .before .before .before
+call h = h .before .before .before .before
 
 abbrev turn : Here → tie.At-loop Inv-loop μ-loop
 turn h = h .before .before .before

@@ -1,9 +1,9 @@
--- What `take` needs in the arms of a loss, a stop, a restart and a rollback. Assumes nothing.
+-- What `go` needs in the arms of a loss, a stop, a restart and a rollback. Assumes nothing.
 use Prim.Native.Nat.{_<_}
 use Rattle.limits.specs.Limits.{mostCabinets, mostSlots}
 use Rattle.run.proofs.ArmLaws.{loses-place, loses-nothing, loses-one, stops-place, stops-not, stops-to, restarts-place, restarts-to, rolls-place, rolls-not, rolls-to, rolls-nowhere}
-use Rattle.run.proofs.steps.take.Proof.Here.{Inv-loop, μ-loop, here, end}
-use Rattle.run.proofs.steps.take.Tie as tie
+use Rattle.run.proofs.steps.go.Proof.Here.{Inv-loop, μ-loop, here, end}
+use Rattle.run.proofs.steps.go.Tie as tie
 use mathlib.Core.Path.{sym, _∙_}
 
 -- ---- the places that the arms were given are the run's

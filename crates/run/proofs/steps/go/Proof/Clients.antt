@@ -1,10 +1,10 @@
--- What `take` needs in the arms of a step that is barred and of the client's own steps: begin, leave and send. Assumes nothing.
+-- What `go` needs in the arms of a step that is barred and of the client's own steps: begin, leave and send. Assumes nothing.
 use Prim.Native.Nat.{_<_}
 use Rattle.limits.specs.Limits.{mostClients}
 use Rattle.run.proofs.ArmLaws.{bars, begins-place, begins-not, begins-to, leaves-place, leaves-not, leaves-to, sends-place, sends-not, sends-in, sends-full}
 use Rattle.run.proofs.FitLaws.{client-operation}
-use Rattle.run.proofs.steps.take.Proof.Here.{Inv-loop, μ-loop, held, sound, here, end}
-use Rattle.run.proofs.steps.take.Tie as tie
+use Rattle.run.proofs.steps.go.Proof.Here.{Inv-loop, μ-loop, held, sound, here, end}
+use Rattle.run.proofs.steps.go.Tie as tie
 use mathlib.Core.Path.{sym}
 use native.Mathlib.Omega.{arith}
 

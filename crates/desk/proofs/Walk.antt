@@ -1,0 +1,5 @@
+-- What the walks over lent records share: a call by value, the locals, nine records in memory, and the types as plain data.
+pub mod ByValue
+pub mod Locals
+pub mod Records
+pub mod Values
