@@ -231,7 +231,7 @@ module _ (run : Run) (table : List Cabinet) (s : Step) where
 
 -- an array of nine lends what it has, where more is asked for
 module _ (len : ℕ) (l : List Cabinet) (nine : length l ≡ mostCabinets) where
-  cap-take : take (min len mostCabinets) l ≡ take len l
+  pub cap-take : take (min len mostCabinets) l ≡ take len l
   cap-take = go _ refl
     where
       go : (t : Bool) → leb len mostCabinets ≡ t → take (min len mostCabinets) l ≡ take len l
@@ -240,7 +240,7 @@ module _ (len : ℕ) (l : List Cabinet) (nine : length l ≡ mostCabinets) where
           let h = leb-false len mostCabinets e in
           take-all (min len mostCabinets) l (omega arith) ∙ sym (take-all len l (omega arith))
 
-  cap-drop : drop (min len mostCabinets) l ≡ drop len l
+  pub cap-drop : drop (min len mostCabinets) l ≡ drop len l
   cap-drop = go _ refl
     where
       go : (t : Bool) → leb len mostCabinets ≡ t → drop (min len mostCabinets) l ≡ drop len l

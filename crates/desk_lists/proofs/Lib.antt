@@ -1,2 +1,6 @@
 pub mod LentLaws
+pub mod LocalLaws
+pub mod PassOn
+pub mod StoreLaws
+pub mod Values
 pub mod ViewLaws
