@@ -106,20 +106,24 @@ laid-all table = laid-is noneLent 0 table refl
 abbrev pub madeIn : Run → List Cabinet → Step → Made
 madeIn run table s = madeOf run (nineOf table) s
 
+-- a line of more than nine cabinets is damaged, whatever its records
+pub too-long : (run : Run) → mostCabinets < run .plan .n → (l : List Cabinet) → undamaged (withCabinets run l) ≡ false
+unfolding withCabinets
+too-long run h l = go _ refl
+  where
+    go : (t : Bool) → undamaged (withCabinets run l) ≡ t → t ≡ false
+    go true e = absurd (omega (arith, cabinets-range (withCabinets run l) e .1))
+    go false e = refl
+
+pub view-is : (run : Run) (table : List Cabinet) → length table ≤ mostCabinets
+    → withCabinets run (nineOf table .records) ≡ withRecords run table
+unfolding withRecords
+view-is run table h = ap (withCabinets run) (put-in mostCabinets freshCabinet table h)
+
 module _ (run : Run) (table : List Cabinet) (s : Step) where
-  -- a line of more than nine cabinets is damaged, whatever its records
   broken : mostCabinets < run .plan .n → (l : List Cabinet)
       → stepOf (withCabinets run l) s ≡ record { answer = Answer.Refused Refusal.Damaged; run = withCabinets run l }
-  unfolding withCabinets
-  broken h l = step-damaged (withCabinets run l) s (go _ refl)
-    where
-      go : (t : Bool) → undamaged (withCabinets run l) ≡ t → t ≡ false
-      go true e = absurd (omega (arith, cabinets-range (withCabinets run l) e .1))
-      go false e = refl
-
-  view-is : length table ≤ mostCabinets → withCabinets run (nineOf table .records) ≡ withRecords run table
-  unfolding withRecords
-  view-is h = ap (withCabinets run) (put-in mostCabinets freshCabinet table h)
+  broken h l = step-damaged (withCabinets run l) s (too-long run h l)
 
   -- what the step changes of the lent records
   viewed-other : (i : ℕ) → i < length table → i < mostCabinets → i ≢ placeOf run s
@@ -141,7 +145,7 @@ module _ (run : Run) (table : List Cabinet) (s : Step) where
   module _ (same : length table ≡ run .plan .n) where
     made-few : length table ≤ mostCabinets → madeIn run table s ≡ madeBy run (placeOf run s) (viewed run table s)
     unfolding madeOf viewed
-    made-few h = ap (λ (r : Run). madeBy run (placeOf run s) (stepOf r s)) (view-is h)
+    made-few h = ap (λ (r : Run). madeBy run (placeOf run s) (stepOf r s)) (view-is run table h)
 
     -- the answer and the next run
     made-served : servedOf (madeIn run table s) ≡ answered run (viewed run table s)

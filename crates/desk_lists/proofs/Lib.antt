@@ -1,3 +1,4 @@
+pub mod BehindLaws
 pub mod LentLaws
 pub mod LocalLaws
 pub mod PassOn

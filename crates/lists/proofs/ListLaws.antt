@@ -54,12 +54,12 @@ numbers-more run xs x = numbers-append run xs (x ∷ [])
 -- ---- a damaged run answers 1 to each
 
 module _ (run : Run) (broken : undamaged run ≡ false) where
-  runs-damaged : (ss : List Step) → runAll run ss ≡ run
+  pub runs-damaged : (ss : List Step) → runAll run ss ≡ run
   unfolding runAll
   runs-damaged [] = refl
   runs-damaged (s ∷ ss) = rw (step-damaged run s broken) (runs-damaged ss)
 
-  numbers-damaged : (ss : List Step) → numbersOf run ss ≡ replicate (length ss) 1
+  pub numbers-damaged : (ss : List Step) → numbersOf run ss ≡ replicate (length ss) 1
   unfolding numbersOf
   numbers-damaged [] = refl
   numbers-damaged (s ∷ ss) = rw (step-damaged run s broken) (ap (λ (l : List ℕ). 1 ∷ l) (numbers-damaged ss))

@@ -33,7 +33,7 @@ pub fn take_each(run: Run, steps: [Step; MOST_LISTED], count: usize, answers: &m
     let mut i: usize = 0;
     while i < count {
         let s = steps[i];
-        let x = go(held, s);
+        let x = go(held, s, true);
         let answer = x.answer;
         answers[i] = number(answer);
         held = x.run;

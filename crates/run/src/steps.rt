@@ -27,7 +27,6 @@ use types::Outcome;
 use types::Refusal;
 use types::Slot;
 use types::Step;
-ghost use mathlib.Core.Bool.{true};
 ghost use mathlib.Core.Path.{_≡_};
 ghost use Rattle.run.specs.Steps.{stepOf};
 ghost use Rattle.run.specs.Undamaged.{undamaged};
@@ -35,23 +34,18 @@ ghost use Rattle.run.specs.Undamaged.{undamaged};
 pub fn take(run: Run, s: Step) -> Stepped
     ensures { λ r. ⌜ r ≡ stepOf run s ⌝ }
 {
-    if guarded::undamaged(run) {
-        return go(run, s);
-    }
-    Stepped {
-        answer: Answer::Refused(Refusal::Damaged),
-        run: run,
-    }
+    let sound = guarded::undamaged(run);
+    go(run, s, sound)
 }
 
-// A step of a run that is known to be undamaged, for a caller that has looked once and takes many. The run is changed in place, in the arm of its
-// kind: to hand it on would copy its five kilobytes. The loop has one turn, so that every arm leaves by one way and the run is copied out once.
-pub fn go(mut run: Run, s: Step) -> Stepped
-    requires { ⌜ undamaged run ≡ true ⌝ }
+// The step behind its damage check, for a caller that looks at the run once and takes many. The run is changed in place, in the arm of its kind:
+// to hand it on would copy its five kilobytes. The loop has at most one turn, so that every arm leaves by one way and the run is copied out once.
+pub fn go(mut run: Run, s: Step, sound: bool) -> Stepped
+    requires { ⌜ sound ≡ undamaged run ⌝ }
     ensures { λ r. ⌜ r ≡ stepOf run s ⌝ }
 {
-    let mut says = Answer::Refused(Refusal::Range);
-    let mut due = true;
+    let mut says = Answer::Refused(Refusal::Damaged);
+    let mut due = sound;
     while due {
         due = false;
         let plan = run.plan;

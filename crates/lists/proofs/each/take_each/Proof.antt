@@ -2,6 +2,7 @@
 use Prim.Native.Nat.{_-_, _≤_}
 use lib.ListN.{length}
 use borrow.Author.Needs.{needs}
+use mathlib.Core.Path.{sym}
 use native.Mathlib.Omega.{arith}
 use Rattle.lists.proofs.ListLaws.{Going, going-none, going-next, going-all}
 use Rattle.lists.proofs.each.take_each.Statement.{statement}
@@ -20,7 +21,7 @@ array-copy-out-s : tie.Need-array-copy-out-s Inv-loop μ-loop
 array-copy-out-s c = let l = c .before in omega (arith, l .before .before .pre .0, c .loop-test .taken)
 
 go-requires : tie.Need-go-requires Inv-loop μ-loop
-go-requires c κs = c .before .before .loop .inv .sound
+go-requires c κs = sym (c .before .before .loop .inv .sound)
 
 slice-write-answers : tie.Need-slice-write-answers Inv-loop μ-loop
 slice-write-answers c =

@@ -10,11 +10,10 @@ use Here.*
 use Rattle.run.proofs.steps.go.Statement.{statement}
 use Rattle.run.proofs.steps.go.Tie as tie
 use borrow.Author.Needs.{needs}
-use mathlib.Core.Path.{refl}
 use native.Mathlib.Omega.{arith}
 
 loop-holds : tie.Need-loop-holds Inv-loop μ-loop
-loop-holds c = (c .pre, refl)
+loop-holds c = starts (c .args .t1) (c .args .s) (c .args .sound) (c .pre)
 
 returns : tie.Need-returns Inv-loop μ-loop
 returns c =

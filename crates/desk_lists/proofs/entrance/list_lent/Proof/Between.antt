@@ -23,8 +23,9 @@ use Rattle.desk.proofs.Walk.Locals.{at, span, here, its, its-part}
 use Rattle.desk.proofs.Walk.Values.{nine-data}
 use Rattle.desk_lists.specs.Names.{Made, Nine}
 use Rattle.desk_lists.specs.View.{madeOf}
-use Rattle.desk_lists.proofs.LentLaws.{stored, list-right}
+use Rattle.desk_lists.proofs.LentLaws.{list-right}
 use Rattle.desk_lists.proofs.PassOn.{calls-on}
+use Rattle.desk_lists.proofs.StoreLaws.{stored}
 use Rattle.desk_lists.proofs.Values.{made-data}
 use Rattle.desk_lists.proofs.entrance.list_lent.Code.Mir as code
 use Rattle.desk_lists.proofs.entrance.list_lent.Proof.Callees.{Make, MadeRecords, Knows, make-of, made-records-of}

@@ -27,9 +27,8 @@ use Rattle.desk.proofs.Walk.Locals.{Cell, all-empty, put, locals}
 use Rattle.desk.proofs.Walk.Values.{cabinet-data, run-data, nine-data}
 use Rattle.desk_lists.specs.Names.{Cabinet, Made, Nine, Run, Step}
 use Rattle.desk_lists.proofs.Made.Laws as made-laws
-use Rattle.desk_lists.proofs.LentLaws.{stored}
 use Rattle.desk_lists.proofs.PassOn.{Bytes, bytes-passed, bytes-own, bytes-last}
-use Rattle.desk_lists.proofs.StoreLaws.{storing}
+use Rattle.desk_lists.proofs.StoreLaws.{stored, storing}
 use Rattle.desk_lists.proofs.Values.{made-data, steps-data}
 
 -- ---- the locals, as the code numbers them

@@ -35,8 +35,7 @@ use Rattle.desk.proofs.Walk.Locals.{at, here, its, its-part}
 use Rattle.desk.proofs.Walk.Values.{cabinet-data}
 use Rattle.desk_lists.specs.Names.{Cabinet, Nine}
 use Rattle.desk_lists.specs.View.{recordAt}
-use Rattle.desk_lists.proofs.LentLaws.{stored}
-use Rattle.desk_lists.proofs.StoreLaws.{storing, store-next, store-all}
+use Rattle.desk_lists.proofs.StoreLaws.{stored, storing, store-next, store-all}
 use Rattle.desk_lists.proofs.entrance.list_lent.Code.Mir as code
 use Rattle.desk_lists.proofs.entrance.list_lent.Proof.Callees.{RecordAt, Knows, record-at-of}
 use Rattle.desk_lists.proofs.entrance.list_lent.Proof.Exit.{Post, Said, after-store}

@@ -1,14 +1,15 @@
 -- What the one turn of `go` keeps, and what its arms need of the place behind admission, which every arm passes. Assumes nothing.
 use Prim.Native.Nat.{_≤_, _<_}
 use mathlib.Core.Bool.{Bool, true, false, cond}
-use mathlib.Core.Path.{_≡_, sym, ap, subst, _∙_}
+use mathlib.Core.Path.{_≡_, refl, sym, ap, subst, _∙_}
 use native.Mathlib.Omega.{arith}
 use Rattle.limits.specs.Limits.{mostSteps}
-use Rattle.run.specs.Names.{Answer, Run, Step, Stepped}
+use Rattle.run.specs.Names.{Answer, Refusal, Run, Step, Stepped}
 use Rattle.run.specs.Steps.{stepOf}
 use Rattle.run.specs.Undamaged.{undamaged}
 use Rattle.run.proofs.ArmLaws.{Admitted}
 use Rattle.run.proofs.FitLaws.{steps-most}
+use Rattle.run.proofs.FrameLaws.{step-damaged}
 use Rattle.run.proofs.steps.go.Tie as tie
 
 -- a step that is due finds the run whole and as it came; after it the answer and the run are the step's
@@ -17,10 +18,15 @@ Doing run₀ s true says run = (undamaged run ≡ true) × (run ≡ run₀)
 Doing run₀ s false says run = stepOf run₀ s ≡ record { answer = says; run = run }
 
 abbrev pub Inv-loop : tie.InvT-loop
-Inv-loop s run₀ says₀ due₀ run says due = Doing run₀ s due says run
+Inv-loop s sound run₀ says₀ due₀ run says due = Doing run₀ s due says run
 
 abbrev pub μ-loop : tie.MeasureT-loop
-μ-loop s run₀ says₀ due₀ run says due = cond due 1 0
+μ-loop s sound run₀ says₀ due₀ run says due = cond due 1 0
+
+-- a damaged run is answered before the loop
+pub starts : (run : Run) (s : Step) (b : Bool) → b ≡ undamaged run → Doing run s b (Answer.Refused Refusal.Damaged) run
+starts run s true e = (sym e, refl)
+starts run s false e = step-damaged run s (sym e)
 
 pub ends : (run₀ : Run) (s : Step) (b : Bool) (says : Answer) (run : Run) → Doing run₀ s b says run → b ≡ false
     → _≡_ {A = Stepped} (record { answer = says; run = run }) (stepOf run₀ s)

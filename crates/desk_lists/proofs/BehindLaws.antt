@@ -10,7 +10,7 @@ use lib.ListN.{length, getD, take, replicate, length-append, length-replicate, L
 use lib.Seq.{getD-take, length-take-le, ext-getD}
 use borrow.Author.Tests.{ltb-true, ltb-false}
 use Rattle.limits.specs.Limits.{mostCabinets}
-use Rattle.served.specs.Names.{Asked, Cabinet, Held, Plan, Run, Step, Stepped}
+use Rattle.desk_lists.specs.Names.{Asked, Cabinet, Held, Plan, Run, Step, Stepped}
 use Rattle.cabinet.specs.Cabinets.{freshCabinet}
 use Rattle.cabinet.proofs.ListLaws.{getD-filled}
 use Rattle.admit.proofs.AdmitLaws.{Placed, admitted-placed}
