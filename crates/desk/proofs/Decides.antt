@@ -1,6 +1,6 @@
 -- Each public contract decides, and it asks nothing of its caller: any two outcomes that it allows for the same run, table and step agree on the
--- answer, on every part of the next run and on every record of the table at exit, and what it requires always holds (`emp`). Both functions are
--- proved by a walk, so there is no `Post` to cite: `step-lent-says` and `step-local-says` hold the contract that the checker reads in src/ to the
+-- answer, on every part of the next run and on every record of the table at exit, and what it requires always holds (`emp`). The entrances are
+-- proved by a walk, so there is no `Post` to cite for them: `step-lent-says` and `step-local-says` hold the contract that the checker reads in src/ to the
 -- fact stated here, and a weaker contract is refused there; `step-lent-any` and `step-local-any` refuse one that asks for something.
 -- Assumes nothing.
 use Prim.Native.Nat.{ℕ}
@@ -14,10 +14,14 @@ use prog.Wp.{Heap}
 use ghost.Atoms.{Atoms}
 use contract.Monad.{Fun, fact}
 use denote.Ref.{now}
-use Rattle.desk.specs.Names.{Cabinet, Local, Run, Served, Step}
+use Rattle.desk.specs.Names.{Cabinet, Local, Nine, Run, Served, Step}
 use Rattle.desk.specs.Desk.{lentOf, tableOf, localOf}
 use Rattle.desk.proofs.array.step_local as step-local
 use Rattle.desk.proofs.entrance.step_lent as step-lent
+use Rattle.desk.proofs.view.count.Reads as count
+use Rattle.desk.proofs.view.few.Reads as few
+use Rattle.desk.proofs.view.none_lent.Reads as none-lent
+use Rattle.desk.proofs.view.with_record.Reads as with-record
 
 -- what the contract says of the result r and the table at exit
 abbrev pub LentPost : Run → List Cabinet → Step → Served → List Cabinet → Type 0
@@ -46,3 +50,29 @@ step-local-decides run table len s r r′ p q = p ∙ sym q
 pub step-local-any : {M : Type 1} (𝓤 : URA M) (H : Heap 𝓤) (A : Atoms 𝓤) (at-mem : Memory → SProp 𝓤) (run : Routine → Fun 𝓤) (κs : _) (a : _) (g : _)
     → step-local.clauses 𝓤 H A at-mem run κs a .requires g ≡ emp 𝓤
 step-local-any 𝓤 H A at-mem run κs a g = refl
+
+-- ---- what a list over a lent table uses too
+
+pub count-decides : (κs : _) (a : _) (x y : ℕ) (s s′ : _) → count.Post κs a x s → count.Post κs a y s′ → x ≡ y
+count-decides κs a x y s s′ p q = p ∙ sym q
+
+pub count-any : (κs : _) (a : _) → count.Pre κs a
+count-any κs a = tt
+
+pub few-decides : (κs : _) (a : _) (x y : ℕ) (s s′ : _) → few.Post κs a x s → few.Post κs a y s′ → x ≡ y
+few-decides κs a x y s s′ p q = p ∙ sym q
+
+pub few-any : (κs : _) (a : _) → few.Pre κs a
+few-any κs a = tt
+
+pub none-lent-decides : (κs : _) (a : _) (x y : Nine) (s s′ : _) → none-lent.Post κs a x s → none-lent.Post κs a y s′ → x ≡ y
+none-lent-decides κs a x y s s′ p q = p ∙ sym q
+
+pub none-lent-any : (κs : _) (a : _) → none-lent.Pre κs a
+none-lent-any κs a = tt
+
+pub with-record-decides : (κs : _) (a : _) (x y : Nine) (s s′ : _) → with-record.Post κs a x s → with-record.Post κs a y s′ → x ≡ y
+with-record-decides κs a x y s s′ p q = p ∙ sym q
+
+pub with-record-any : (κs : _) (a : _) → with-record.Pre κs a
+with-record-any κs a = tt

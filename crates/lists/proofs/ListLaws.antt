@@ -5,8 +5,8 @@ use mathlib.Core.List.{List, [], _∷_, _++_}
 use mathlib.Core.Path.{_≡_, refl, sym, ap, ap₂, _∙_}
 use native.Mathlib.Numerals.{add-one}
 use native.Mathlib.Omega.{arith}
-use lib.ListN.{length, getD, set, take, drop, replicate, length-set, length-replicate}
-use lib.Seq.{take-suc, length-take-le}
+use lib.ListN.{length, getD, set, take, drop, replicate, length-append, length-set, length-replicate}
+use lib.Seq.{take-suc, take-add, length-take-le}
 use borrow.Author.Tests.{le-leb, lt-leb}
 use Rattle.types.specs.Answers.{answerNumber}
 use Rattle.run.specs.Lists.{runAll}
@@ -163,3 +163,37 @@ module _ (run : Run) (steps : List Step) (count : ℕ) (table : List ℕ) where
   pub list-taken : count ≤ mostListed → count ≤ length table → takenOf run (take count steps) table ≡ listOf run steps count table
   unfolding listOf fits
   list-taken h g = rw (le-leb count mostListed h, le-leb count (length table) g)
+
+-- ---- a list cut in two
+
+front-cut : (ns ms t u : List ℕ) → length ns ≡ length t → inFront (ns ++ ms) (t ++ u) ≡ inFront ns t ++ inFront ms u
+unfolding inFront
+front-cut [] ms [] u e = refl
+front-cut [] ms (x ∷ t) u e = absurd (omega arith)
+front-cut (n ∷ ns) ms [] u e = absurd (omega arith)
+front-cut (n ∷ ns) ms (x ∷ t) u e = ap (λ (l : List ℕ). n ∷ l) (front-cut ns ms t u (omega arith))
+
+-- the answers of the second list stand behind those of the first
+abbrev pub joined : Listed × List ℕ → Listed × List ℕ → Listed × List ℕ
+joined first then = (then .0, first .1 ++ then .1)
+
+taken-cut : (run : Run) (xs ys : List Step) (t u : List ℕ) → length xs ≡ length t
+    → takenOf run (xs ++ ys) (t ++ u) ≡ joined (takenOf run xs t) (takenOf (runAll run xs) ys u)
+unfolding takenOf
+taken-cut run xs ys t u e =
+    rw (run-append run xs ys, numbers-append run xs ys)
+    (ap (λ (l : List ℕ). (record { whole = Whole.Taken; run = runAll (runAll run xs) ys }, l))
+    (front-cut (numbersOf run xs) (numbersOf (runAll run xs) ys) t u (numbers-length run xs ∙ e)))
+
+-- the second goes to the run that the first one left
+pub list-cut : (run : Run) (steps : List Step) (i j : ℕ) (t u : List ℕ) → length t ≡ i → i + j ≤ mostListed → j ≤ length u → i ≤ length steps
+    → listOf run steps (i + j) (t ++ u) ≡ joined (listOf run steps i t) (listOf (listOf run steps i t .0 .run) (drop i steps) j u)
+unfolding takenOf
+list-cut run steps i j t u same few places listed =
+    let first = list-taken run steps i t (omega arith) (omega arith) in
+    sym (list-taken run steps (i + j) (t ++ u) few (omega (arith, length-append t u)))
+    ∙ ap (λ (l : List Step). takenOf run l (t ++ u)) (take-add i j steps)
+    ∙ taken-cut run (take i steps) (take j (drop i steps)) t u (length-take-le i steps listed ∙ sym same)
+    ∙ ap₂ joined first
+    (list-taken (runAll run (take i steps)) (drop i steps) j u (omega arith) places
+    ∙ ap (λ (z : Listed × List ℕ). listOf (z .0 .run) (drop i steps) j u) first)

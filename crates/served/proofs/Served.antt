@@ -17,8 +17,9 @@ use Rattle.desk.proofs.DeskLaws.{as-step}
 use Rattle.promise.specs.Events.{Event, events}
 use Rattle.promise.specs.Promise.{Promise}
 use Rattle.promise.proofs.Kept.{promise-always}
-use Rattle.served.specs.Served.{lentAnswers, ownAnswers, lentRun, lentTable, lentEvents, freshTable}
-use Rattle.served.proofs.BehindLaws.{behind-step, same-step}
+use Rattle.desk_lists.specs.Lent.{lentRun, lentTable}
+use Rattle.desk_lists.proofs.BehindLaws.{behind-step, same-step}
+use Rattle.served.specs.Served.{lentAnswers, ownAnswers, lentEvents, freshTable}
 use Rattle.served.proofs.EventLaws.{event-same}
 
 -- the answers

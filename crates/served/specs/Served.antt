@@ -20,18 +20,6 @@ abbrev pub ownAnswers : Run → List Step → List Answer
 ownAnswers run [] = []
 ownAnswers run (s ∷ ss) = stepOf run s .answer ∷ ownAnswers (stepOf run s .run) ss
 
--- ---- the run and the table after the list
-
--- S14.4: the run after the list
-abbrev pub lentRun : Run → List Cabinet → List Step → Run
-lentRun run table [] = run
-lentRun run table (s ∷ ss) = lentRun (lentOf run table s .run) (tableOf run table s) ss
-
--- S14.3: the table after the list
-abbrev pub lentTable : Run → List Cabinet → List Step → List Cabinet
-lentTable run table [] = table
-lentTable run table (s ∷ ss) = lentTable (lentOf run table s .run) (tableOf run table s) ss
-
 -- ---- the events: those of crate promise, read off the answer and the desk's own run before and after the step
 
 -- S19.6: the event of an answer; 14 has none
