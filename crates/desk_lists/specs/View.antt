@@ -25,10 +25,10 @@ madeBy run z = (
   z .1,
 )
 
--- S14.2: of a list over nine records by value
+-- S14.2, S21.6: of a list over nine records by value
 unfoldable pub madeOf : Run → Nine → List Step → ℕ → List ℕ → Made × List ℕ
 madeOf run lent steps count table = madeBy run (listOf (withCabinets run (lent .records)) steps count table)
 
--- S14.3: the record that stands at place i afterwards, where k stood
+-- S14.3, S21.6: the record that stands at place i afterwards, where k stood
 unfoldable pub recordAt : Nine → ℕ → Cabinet → Cabinet
 recordAt r i k = cond (ltb i mostCabinets) (getD (r .records) i noCabinet) k

@@ -20,12 +20,12 @@ use Rattle.lists.specs.Whole.{mostListed, fits, numbersOf, inFront, take
 
 -- ---- what stands in front
 
-pub front-none : (table : List ℕ) → inFront [] table ≡ table
+front-none : (table : List ℕ) → inFront [] table ≡ table
 unfolding inFront
 front-none table = refl
 
 -- one place more
-pub front-more : (ns table : List ℕ) (n : ℕ) → length ns < length table
+front-more : (ns table : List ℕ) (n : ℕ) → length ns < length table
     → set (inFront ns table) (length ns) n ≡ inFront (ns ++ (n ∷ [])) table
 unfolding inFront
 front-more [] [] n h = absurd (omega arith)
@@ -35,12 +35,12 @@ front-more (m ∷ ns) (t ∷ table) n h = ap (λ (l : List ℕ). m ∷ l) (front
 
 -- ---- the numbers
 
-pub numbers-length : (run : Run) (ss : List Step) → length (numbersOf run ss) ≡ length ss
+numbers-length : (run : Run) (ss : List Step) → length (numbersOf run ss) ≡ length ss
 unfolding numbersOf
 numbers-length run [] = refl
 numbers-length run (s ∷ ss) = ap suc (numbers-length (stepOf run s .run) ss)
 
-pub numbers-append : (run : Run) (xs ys : List Step) → numbersOf run (xs ++ ys) ≡ numbersOf run xs ++ numbersOf (runAll run xs) ys
+numbers-append : (run : Run) (xs ys : List Step) → numbersOf run (xs ++ ys) ≡ numbersOf run xs ++ numbersOf (runAll run xs) ys
 unfolding numbersOf runAll
 numbers-append run [] ys = refl
 numbers-append run (x ∷ xs) ys =

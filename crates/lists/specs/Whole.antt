@@ -18,7 +18,7 @@ abbrev pub wholeNumber : Whole → ℕ
 wholeNumber Whole.Taken = 0
 wholeNumber Whole.NoRoom = 16
 
--- S12.16: not too many steps, and a place for the answer of each
+-- S12.16, S21.2: not too many steps, and a place for the answer of each
 unfoldable pub fits : ℕ → ℕ → Bool
 fits count places = leb count mostListed && leb count places
 

@@ -22,7 +22,7 @@ pub struct Listed {
     pub run: Run,
 }
 
-// S21: the list is the first `count` of the steps.
+// S20.9, S21.1: the list is the first `count` of the steps.
 pub fn take_list(run: Run, steps: [Step; MOST_LISTED], count: usize, answers: &mut [u8]) -> Listed
     ensures { λ r. ⌜ (r, now (answers .exit)) ≡ listOf run steps count (now (answers .entry)) ⌝ }
 {

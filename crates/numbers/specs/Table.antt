@@ -1,5 +1,5 @@
--- The table of clauses S12.0 to S12.11 and S12.14 of docs/SCOPE.md in its order (S5.5): each number with its check, then which checks a
--- step meets.
+-- The table of clauses S12.0 to S12.11, S12.14 and S12.16 of docs/SCOPE.md in its order (S5.5): each number with its check, then which
+-- checks a list and a step meet.
 use Prim.Native.Nat.{ℕ, _-_}
 use mathlib.Core.Bool.{Bool, true, false, cond, not, _&&_, _||_}
 use mathlib.Core.List.{List, [], _∷_}
@@ -11,9 +11,10 @@ use Rattle.types.specs.Parts.{storedIn}
 use Rattle.admit.specs.Admit.{inRange}
 use Rattle.server.specs.Deeds.{isDown}
 use Rattle.run.specs.Gather.{isEmpty, othersFrom}
-use Rattle.run.specs.Steps.{clientAt, slotAt, cabinetAt}
+use Rattle.run.specs.Steps.{clientAt, slotAt, cabinetAt, stepOf}
 use Rattle.run.specs.Undamaged.{undamaged}
-use Rattle.desk.specs.Desk.{withRecords}
+use Rattle.desk.specs.Desk.{withRecords, lentOf, tableOf}
+use Rattle.lists.specs.Whole.{mostListed}
 
 -- S5.5: a line of the table: whether it applies, and its number
 pub data Check : Type 0 where
@@ -25,6 +26,10 @@ firstOf [] = 0
 firstOf (check applies number ∷ l) = cond applies number (firstOf l)
 
 -- ---- the lines of the table; clients, cabinets and slots have the numbers of SCOPE.md, from 1
+
+-- S12.16: too many steps, or too few places for their answers
+abbrev pub noRoom : ℕ → ℕ → Check
+noRoom count places = check (ltb mostListed count || ltb places count) 16
 
 -- S12.14: the table has another length
 abbrev pub otherLength : Run → List Cabinet → Check
@@ -123,3 +128,19 @@ tableNumber run s = firstOf (checksOf run s)
 -- S12.14, S14.2: the number that a step over a lent table is answered; the damage check looks at the lent records
 unfoldable pub lentTableNumber : Run → List Cabinet → Step → ℕ
 lentTableNumber run table s = firstOf (otherLength run table ∷ checksOf (withRecords run table) s)
+
+-- ---- a list in one go
+
+-- S12.16, S21.2: the number that comes back for the whole list
+unfoldable pub listTableNumber : ℕ → ℕ → ℕ
+listTableNumber count places = firstOf (noRoom count places ∷ [])
+
+-- S21.3: the numbers of its steps
+abbrev pub tableNumbers : Run → List Step → List ℕ
+tableNumbers run [] = []
+tableNumbers run (s ∷ ss) = tableNumber run s ∷ tableNumbers (stepOf run s .run) ss
+
+-- S21.6: the same over a lent table
+abbrev pub lentTableNumbers : Run → List Cabinet → List Step → List ℕ
+lentTableNumbers run table [] = []
+lentTableNumbers run table (s ∷ ss) = lentTableNumber run table s ∷ lentTableNumbers (lentOf run table s .run) (tableOf run table s) ss
