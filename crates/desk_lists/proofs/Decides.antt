@@ -33,9 +33,11 @@ pub list-lent-decides : (run : Run) (records : List Cabinet) (steps : List Step)
     → ListPost run records steps count answers r after said → ListPost run records steps count answers r′ after′ said′
     → (r ≡ r′) × (after ≡ after′) × (said ≡ said′)
 list-lent-decides run records steps count answers r r′ after after′ said said′ p q =
-    let e = p ∙ sym q in
-    (ap (λ (z : Listed × List Cabinet × List ℕ). z .0) e, ap (λ (z : Listed × List Cabinet × List ℕ). z .1) e,
-    ap (λ (z : Listed × List Cabinet × List ℕ). z .2) e)
+    let e = p ∙ sym q in (
+      ap (λ (z : Listed × List Cabinet × List ℕ). z .0) e,
+      ap (λ (z : Listed × List Cabinet × List ℕ). z .1) e,
+      ap (λ (z : Listed × List Cabinet × List ℕ). z .2) e,
+    )
 
 pub list-lent-any : {M : Type 1} (𝓤 : URA M) (H : Heap 𝓤) (A : Atoms 𝓤) (at-mem : Memory → SProp 𝓤) (run : Routine → Fun 𝓤) (κs : _) (a : _) (g : _)
     → list-lent.clauses 𝓤 H A at-mem run κs a .requires g ≡ emp 𝓤

@@ -6,7 +6,7 @@ use mathlib.Core.Path.{_≡_, refl, sym, ap, ap₂, _∙_}
 use native.Mathlib.Omega.{arith}
 use lib.Dec.{eqb, leb, ltb}
 use lib.ListN.{length, getD, take, replicate, length-append, length-replicate}
-use lib.Seq.{ext-getD, getD-take, length-take-le, take-append-seam}
+use lib.Seq.{getD-take, length-take-le, take-append-seam}
 use borrow.Author.Tests.{leb-true, leb-false, ltb-true, ltb-false}
 use Rattle.limits.specs.Limits.{mostCabinets}
 use Rattle.plan.proofs.RuleLaws.{both}
@@ -173,8 +173,12 @@ module _ (run : Run) (ys : List Cabinet) (steps : List Step) (count : ℕ) (tabl
           → beside ys (cond t (record { whole = Whole.Taken; run = run }, inFront (replicate count 14) table) (untakenOf run table))
           ≡ cond t (lentTakenOf run ys (take count steps) table) (lentUntakenOf run ys table)
       go true f =
-          rw (wrong-run run ys other (take count steps), wrong-table run ys other (take count steps),
-          wrong-numbers run ys other (take count steps), listed f)
+          rw (
+            wrong-run run ys other (take count steps),
+            wrong-table run ys other (take count steps),
+            wrong-numbers run ys other (take count steps),
+            listed f,
+          )
       go false f = refl
 
   -- what is made of nine records, with these stored

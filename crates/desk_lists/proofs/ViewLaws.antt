@@ -8,7 +8,7 @@ use Rattle.limits.specs.Limits.{mostCabinets}
 use Rattle.types.specs.Parts.{noCabinet}
 use Rattle.desk.specs.Desk.{withCabinets}
 use Rattle.lists.specs.Whole.{mostListed, fits, inFront, untakenOf, listOf}
-use Rattle.desk_lists.specs.Names.{Cabinet, Listed, Made, Nine, Run, Step, Whole}
+use Rattle.desk_lists.specs.Names.{Cabinet, Listed, Nine, Run, Step, Whole}
 use Rattle.desk_lists.specs.View.{wrongOf, madeBy, madeOf, recordAt}
 
 module _ (r : Nine) (i : ℕ) (k : Cabinet) where

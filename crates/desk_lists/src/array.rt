@@ -11,7 +11,14 @@ use types::Step;
 ghost use mathlib.Core.Path.{_≡_};
 ghost use Rattle.desk_lists.specs.Lent.{localListOf};
 
-pub fn list_local(run: Run, table: [Cabinet; MOST_CABINETS], len: usize, steps: [Step; MOST_LISTED], count: usize, answers: &mut [u8]) -> Local
+pub fn list_local(
+    run: Run,
+    table: [Cabinet; MOST_CABINETS],
+    len: usize,
+    steps: [Step; MOST_LISTED],
+    count: usize,
+    answers: &mut [u8],
+) -> Local
     ensures { λ r. ⌜ (r, now (answers .exit)) ≡ localListOf run table len steps count (now (answers .entry)) ⌝ }
 {
     let mut t = table;

@@ -11,7 +11,13 @@ ghost use mathlib.Core.Path.{_≡_};
 ghost use Rattle.desk_lists.specs.Lent.{lentListOf};
 
 // S20.9, S21.6: a list over the records that the desk lends. They are copied out once and back once, so this has two loops.
-pub fn list_lent(run: Run, table: &mut [Cabinet], steps: [Step; MOST_LISTED], count: usize, answers: &mut [u8]) -> Listed
+pub fn list_lent(
+    run: Run,
+    table: &mut [Cabinet],
+    steps: [Step; MOST_LISTED],
+    count: usize,
+    answers: &mut [u8],
+) -> Listed
     ensures { λ r. ⌜ (r, now (table .exit), now (answers .exit)) ≡ lentListOf run (now (table .entry)) steps count (now (answers .entry)) ⌝ }
 {
     let n = desk::count(run);

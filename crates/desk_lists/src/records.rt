@@ -37,7 +37,13 @@ pub fn refuse(run: Run, count: usize, answers: &mut [u8]) -> Listed
 }
 
 // The run's own records are put aside before the list and put back after it.
-pub fn make(run: Run, lent: Nine, steps: [Step; MOST_LISTED], count: usize, answers: &mut [u8]) -> Made
+pub fn make(
+    run: Run,
+    lent: Nine,
+    steps: [Step; MOST_LISTED],
+    count: usize,
+    answers: &mut [u8],
+) -> Made
     ensures { λ r. ⌜ (r, now (answers .exit)) ≡ madeOf run lent steps count (now (answers .entry)) ⌝ }
 {
     let own = run.cabinets;

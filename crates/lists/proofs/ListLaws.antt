@@ -1,6 +1,6 @@
 -- Laws of a list of steps in one go: what stands in front of the table, one step more, a damaged run, a list cut in two. Assumes nothing.
 use Prim.Native.Nat.{ℕ, zero, suc, _+_, _<_, _≤_}
-use mathlib.Core.Bool.{Bool, true, false}
+use mathlib.Core.Bool.{true, false}
 use mathlib.Core.List.{List, [], _∷_, _++_}
 use mathlib.Core.Path.{_≡_, refl, sym, ap, ap₂, _∙_}
 use native.Mathlib.Numerals.{add-one}
@@ -14,8 +14,8 @@ use Rattle.run.specs.Steps.{stepOf}
 use Rattle.run.specs.Undamaged.{undamaged}
 use Rattle.run.proofs.FrameLaws.{step-damaged}
 use Rattle.run.proofs.ListLaws.{run-append, run-more}
-use Rattle.run.proofs.UndamagedLaws.{step-undamaged, all-by}
-use Rattle.lists.specs.Names.{Answer, Listed, Refusal, Run, Step, Stepped, Whole}
+use Rattle.run.proofs.UndamagedLaws.{step-undamaged}
+use Rattle.lists.specs.Names.{Listed, Run, Step, Stepped, Whole}
 use Rattle.lists.specs.Whole.{mostListed, fits, numbersOf, inFront, takenOf, untakenOf, listOf}
 
 -- ---- what stands in front

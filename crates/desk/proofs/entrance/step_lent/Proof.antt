@@ -7,7 +7,7 @@ mod Exit
 mod Here
 mod Loop
 use mathlib.Core.Path.{_≡_, refl}
-use Prim.Native.Nat.{ℕ, zero-le, _+_}
+use Prim.Native.Nat.{ℕ, _+_}
 use mathlib.Core.Bool.{Bool, not}
 use mathlib.Core.List.{[], _∷_, _++_}
 use lib.Dec.{T, eqb, lit<}
@@ -62,11 +62,12 @@ use Rattle.desk.proofs.entrance.step_lent.Key.{name as #step-lent}
 use Rattle.desk.proofs.entrance.step_lent.Statement.{statement}
 use Rattle.desk.proofs.Walk.Values.{cabinet-data, run-data, step-data, nine-data, served-data}
 use Rattle.desk.proofs.Walk.ByValue.{usize-data, typed, calls-value}
-use Rattle.desk.proofs.entrance.step_lent.Proof.Callees.{Count, Refuse, NoneLent, WithRecord, Make, MetBy, Serve, Knows, count-of, refuse-of, none-lent-of}
+use Rattle.desk.proofs.entrance.step_lent.Proof.Callees.{Refuse, Make, MetBy, Serve, Knows, refuse-of}
 use Rattle.desk.proofs.entrance.step_lent.Proof.Exit.{stayed, args, vals, Post, exits}
 use Rattle.desk.proofs.entrance.step_lent.Proof.Here.{the-answer, the-run, the-table, the-step, the-n, the-lent, the-i, the-length, the-test, the-end, lie, Lent, passed, entered, counted, Shut, Turning}
+use Rattle.desk.proofs.Walk.Laying.{Nearer, Nearer-wf, Count, NoneLent, WithRecord, count-of, none-lent-of}
 use Rattle.desk.proofs.Walk.Locals.{Cell, at, span, backwards, put, frees-locals, here, its, its-part}
-use Rattle.desk.proofs.entrance.step_lent.Proof.Loop.{Nearer, Nearer-wf, turns}
+use Rattle.desk.proofs.entrance.step_lent.Proof.Loop.{turns}
 
 module _ {M : Type 1} {𝓤 : URA M} {H : Heap 𝓤} {A : Atoms 𝓤} (W : Given 𝓤 H A) (at-mem : Memory → SProp 𝓤) (run : Routine → Fun 𝓤)
     (L : Lent) (𝓣 : Tables 𝓤 H) (known : Knows 𝓤 H A at-mem run (𝓣 .C)) where
@@ -103,7 +104,7 @@ module _ {M : Type 1} {𝓤 : URA M} {H : Heap 𝓤} {A : Atoms 𝓤} (W : Given
         opens-slice ! tt (cabinet-data .row) (L .ys) (L .b) (L .o) $
         first ! $ blocks ! $
         loops ! 𝓣 Nearer Nearer-wf (Turning L l) (turns W at-mem run L 𝓣 known l (alike equal))
-        (record { i = 0; nine = noneLent; within = zero-le; is-nine = is; rest = refl })))
+        (record { i = 0; nine = noneLent; is-nine = is; rest = refl })))
       where
         test : Bool
         test = eqb (length (L .ys)) (L .own .plan .n)

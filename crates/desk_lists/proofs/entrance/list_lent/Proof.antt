@@ -49,6 +49,7 @@ use Rattle.desk.proofs.none_lent.Met.{met as none-lent-met}
 use Rattle.desk.proofs.with_record.Symbol.{name as #with-record, routine as with-record-routine}
 use Rattle.desk.proofs.with_record.Met.{met as with-record-met}
 use Rattle.desk.proofs.Walk.ByValue.{usize-data, typed, calls-value}
+use Rattle.desk.proofs.Walk.Laying.{Nearer, Nearer-wf, Count, NoneLent, WithRecord, count-of, none-lent-of}
 use Rattle.desk.proofs.Walk.Locals.{Cell, at, span, backwards, put, frees-locals, here, its, its-part}
 use Rattle.desk.proofs.Walk.Values.{cabinet-data, run-data, nine-data}
 use Rattle.desk_lists.proofs.LentLaws.{list-wrong}
@@ -69,10 +70,10 @@ use Rattle.desk_lists.proofs.entrance.list_lent.Code as code
 use Rattle.desk_lists.proofs.entrance.list_lent.Code.Mir as parts
 use Rattle.desk_lists.proofs.entrance.list_lent.Key.{name as #list-lent}
 use Rattle.desk_lists.proofs.entrance.list_lent.Statement.{statement}
-use Rattle.desk_lists.proofs.entrance.list_lent.Proof.Callees.{Count, NoneLent, WithRecord, Refuse, Make, MadeRecords, RecordAt, MadeListed, Knows, count-of, none-lent-of, refuse-of}
+use Rattle.desk_lists.proofs.entrance.list_lent.Proof.Callees.{Refuse, Make, MadeRecords, RecordAt, MadeListed, Knows, refuse-of}
 use Rattle.desk_lists.proofs.entrance.list_lent.Proof.Exit.{stayed, args, vals, Post, exits, Goes}
 use Rattle.desk_lists.proofs.entrance.list_lent.Proof.Here.{the-answer, the-run, the-table, the-steps, the-count, the-answers, the-n, the-lent, the-i, the-length, the-test, refuse-place, refuse-slice, the-end, lie, Lent, passed, entered, counted, Shut, Turning}
-use Rattle.desk_lists.proofs.entrance.list_lent.Proof.Loop.{Nearer, Nearer-wf, turns}
+use Rattle.desk_lists.proofs.entrance.list_lent.Proof.Loop.{turns}
 
 module _ {M : Type 1} {𝓤 : URA M} {H : Heap 𝓤} {A : Atoms 𝓤} (W : Given 𝓤 H A) (at-mem : Memory → SProp 𝓤) (run : Routine → Fun 𝓤)
     (L : Lent) (𝓣 : Tables 𝓤 H) (known : Knows 𝓤 H A at-mem run (𝓣 .C)) where

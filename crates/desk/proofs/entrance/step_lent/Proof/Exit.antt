@@ -47,7 +47,8 @@ use Rattle.desk.proofs.entrance.step_lent.Code.Mir as code
 use Rattle.desk.proofs.Walk.Values.{cabinet-data, run-data, step-data, met-data, made-data, served-data}
 use Rattle.desk.proofs.Walk.ByValue.{IsIt, value, typed, calls-value}
 use Rattle.desk.proofs.entrance.step_lent.Proof.Callees.{Make, MetBy, Serve, Knows, make-of, met-by-of, serve-of}
-use Rattle.desk.proofs.entrance.step_lent.Proof.Here.{the-answer, the-run, the-table, the-step, the-lent, the-made, the-met, the-at, the-length, the-test, store-word, store-place, lie, Lent, State, ref, passed, distance-fits, storing, meeting, turning, Token, Slice, Open, Closed}
+use Rattle.desk.proofs.entrance.step_lent.Proof.Here.{the-answer, the-run, the-table, the-step, the-lent, the-made, the-met, the-at, the-length, the-test, store-word, store-place, lie, Lent, ref, passed, distance-fits, storing, meeting, turning, Token, Slice, Open, Closed}
+use Rattle.desk.proofs.Walk.Laying.{State}
 use Rattle.desk.proofs.Walk.Locals.{put, at, span, frees-locals, here, its, its-part}
 
 abbrev pub stayed : Stays (step-lent.ended .signature .params) (step-lent.ended .kept)

@@ -19,6 +19,7 @@ use sound.WpLaws.{FmC, fmOf}
 use Rattle.desk.specs.View.{noneLent}
 use Rattle.desk.proofs.ViewLaws.{laid, laid-all}
 use Rattle.desk.proofs.Walk.ByValue.{IsIt, typed, calls-value}
+use Rattle.desk.proofs.Walk.Laying.{State}
 use Rattle.desk.proofs.Walk.Locals.{at, span, here, its, its-part}
 use Rattle.desk.proofs.Walk.Values.{nine-data}
 use Rattle.desk_lists.specs.Names.{Made, Nine}
@@ -30,7 +31,7 @@ use Rattle.desk_lists.proofs.Values.{made-data}
 use Rattle.desk_lists.proofs.entrance.list_lent.Code.Mir as code
 use Rattle.desk_lists.proofs.entrance.list_lent.Proof.Callees.{Make, MadeRecords, Knows, make-of, made-records-of}
 use Rattle.desk_lists.proofs.entrance.list_lent.Proof.Exit.{Said, Goes}
-use Rattle.desk_lists.proofs.entrance.list_lent.Proof.Here.{the-run, the-steps, the-count, the-answers, the-lent, the-made, the-after, the-j, make-place, make-slice, the-end, Lent, State, MadeIt, answers-room, Turning, TurningBack}
+use Rattle.desk_lists.proofs.entrance.list_lent.Proof.Here.{the-run, the-steps, the-count, the-answers, the-lent, the-made, the-after, the-j, make-place, make-slice, the-end, Lent, MadeIt, answers-room, Turning, TurningBack}
 use Rattle.desk_lists.proofs.entrance.list_lent.Proof.Store.{Nearer, Nearer-wf, turns-back}
 
 module _ {M : Type 1} {𝓤 : URA M} {H : Heap 𝓤} {A : Atoms 𝓤} (W : Given 𝓤 H A) (at-mem : Memory → SProp 𝓤) (run : Routine → Fun 𝓤)

@@ -1,4 +1,4 @@
--- The eight callees: the contract of each, and what it returns at its arguments. All that the walk knows of them is that each meets its
+-- The eight callees: the contract of each, and what it returns at its arguments; of three both are in `Laying`. All that the walk knows of them is that each meets its
 -- contract. Two are passed the slice of answers. Assumes `Given`.
 use mathlib.Core.Path.{_≡_}
 use Prim.Native.Nat.{ℕ}
@@ -14,14 +14,11 @@ use types.Kit.{Given}
 use denote.Triple.Statement.{Contract, Triple}
 use denote.Triple.Clauses.{ensured, lasts}
 use denote.Triple.Spec.{tripleOf}
-use Rattle.desk.specs.View.{noneLent, lentAt}
-use Rattle.desk.proofs.count as count
 use Rattle.desk.proofs.count.Symbol.{name as #count}
-use Rattle.desk.proofs.none_lent as none-lent
 use Rattle.desk.proofs.none_lent.Symbol.{name as #none-lent}
-use Rattle.desk.proofs.with_record as with-record
 use Rattle.desk.proofs.with_record.Symbol.{name as #with-record}
 use Rattle.desk.proofs.Walk.ByValue.{usize-data, IsIt, Value, asked, clause, Returns}
+use Rattle.desk.proofs.Walk.Laying.{Count, NoneLent, WithRecord}
 use Rattle.desk.proofs.Walk.Values.{cabinet-data, run-data, nine-data}
 use Rattle.desk_lists.specs.Names.{Cabinet, Made, Nine, Run, Step}
 use Rattle.desk_lists.specs.View.{wrongOf, madeOf, recordAt}
@@ -41,15 +38,6 @@ use Rattle.desk_lists.proofs.Values.{listed-data, made-data, steps-data
 -- ---- the contracts
 
 module _ {M : Type 1} (𝓤 : URA M) (H : Heap 𝓤) (A : Atoms 𝓤) (at-mem : Memory → SProp 𝓤) (run : Routine → Fun 𝓤) where
-  abbrev pub Count : Contract 𝓤
-  Count = tripleOf 𝓤 H A count.signature (count.spec 𝓤 H A at-mem run)
-
-  abbrev pub NoneLent : Contract 𝓤
-  NoneLent = tripleOf 𝓤 H A none-lent.signature (none-lent.spec 𝓤 H A at-mem run)
-
-  abbrev pub WithRecord : Contract 𝓤
-  WithRecord = tripleOf 𝓤 H A with-record.signature (with-record.spec 𝓤 H A at-mem run)
-
   abbrev pub Refuse : Contract 𝓤
   Refuse = tripleOf 𝓤 H A refuse.signature (refuse.spec 𝓤 H A at-mem run)
 
@@ -67,9 +55,9 @@ module _ {M : Type 1} (𝓤 : URA M) (H : Heap 𝓤) (A : Atoms 𝓤) (at-mem : 
 
   -- what a table of calls knows of the eight
   pub record Knows (C : Calls 𝓤 H) : Type 1 where
-    pub counts : Triple 𝓤 (C #count) Count
-    pub lends-none : Triple 𝓤 (C #none-lent) NoneLent
-    pub lends-one : Triple 𝓤 (C #with-record) WithRecord
+    pub counts : Triple 𝓤 (C #count) (Count 𝓤 H A at-mem run)
+    pub lends-none : Triple 𝓤 (C #none-lent) (NoneLent 𝓤 H A at-mem run)
+    pub lends-one : Triple 𝓤 (C #with-record) (WithRecord 𝓤 H A at-mem run)
     pub refuses : Triple 𝓤 (C #refuse) Refuse
     pub makes : Triple 𝓤 (C #make) Make
     pub takes-records : Triple 𝓤 (C #made-records) MadeRecords
@@ -79,40 +67,6 @@ module _ {M : Type 1} (𝓤 : URA M) (H : Heap 𝓤) (A : Atoms 𝓤) (at-mem : 
 -- ---- what each returns
 
 module _ {M : Type 1} {𝓤 : URA M} {H : Heap 𝓤} {A : Atoms 𝓤} (W : Given 𝓤 H A) (at-mem : Memory → SProp 𝓤) (run : Routine → Fun 𝓤) where
-  abbrev pub count-of : (own : Run) → IsIt run-data own → Returns W (Count 𝓤 H A at-mem run)
-  count-of own is = record {
-    ghost = ((tt, tt, tt, (own, tt), (run-data .val own ∷ [], tt)), tt);
-    asks = asked W ((run-data, own, is) ∷ []);
-    type = usize-data;
-    result = own .plan .n;
-    Ensured = ensured 𝓤 H A count.ended (count.clauses 𝓤 H A at-mem run) tt (own, tt) tt;
-    ends = λ v. id⊢ 𝓤 _;
-    says = λ z. clause W count.ended tt (own, tt) (z ≡ own .plan .n);
-  }
-
-  abbrev pub none-lent-of : Returns W (NoneLent 𝓤 H A at-mem run)
-  none-lent-of = record {
-    ghost = ((tt, tt, tt, tt, tt), tt);
-    asks = asked W ([]);
-    type = nine-data;
-    result = noneLent;
-    Ensured = ensured 𝓤 H A none-lent.ended (none-lent.clauses 𝓤 H A at-mem run) tt tt tt;
-    ends = λ v. id⊢ 𝓤 _;
-    says = λ z. clause W none-lent.ended tt tt (z ≡ noneLent);
-  }
-
-  abbrev pub with-record-of : (r : Nine) (i : ℕ) (c : Cabinet) → IsIt nine-data r → IsIt usize-data i → IsIt cabinet-data c
-      → Returns W (WithRecord 𝓤 H A at-mem run)
-  with-record-of r i c is-r is-i is-c = record {
-    ghost = ((tt, tt, tt, (r, (i, (c, tt))), (nine-data .val r ∷ [], (usize-data .val i ∷ [], (cabinet-data .val c ∷ [], tt)))), tt);
-    asks = asked W ((nine-data, r, is-r) ∷ (usize-data, i, is-i) ∷ (cabinet-data, c, is-c) ∷ []);
-    type = nine-data;
-    result = lentAt r i c;
-    Ensured = ensured 𝓤 H A with-record.ended (with-record.clauses 𝓤 H A at-mem run) tt (r, (i, (c, tt))) tt;
-    ends = λ v. id⊢ 𝓤 _;
-    says = λ z. clause W with-record.ended tt (r, (i, (c, tt))) (z ≡ lentAt r i c);
-  }
-
   abbrev pub made-records-of : (m : Made) → IsIt made-data m → Returns W (MadeRecords 𝓤 H A at-mem run)
   made-records-of m is = record {
     ghost = ((tt, tt, tt, (m, tt), (made-data .val m ∷ [], tt)), tt);

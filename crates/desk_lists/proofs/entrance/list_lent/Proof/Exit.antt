@@ -27,6 +27,7 @@ use denote.Triple.Entry.{Vals}
 use denote.Triple.Walked.{says, Stays, stay-slice, gave-slice, stay-none, walkOf, ends-at}
 use denote.Exit.{yes}
 use Rattle.desk.proofs.Walk.ByValue.{usize-data, IsIt, value, typed, calls-value}
+use Rattle.desk.proofs.Walk.Laying.{State}
 use Rattle.desk.proofs.Walk.Locals.{put, at, span, frees-locals, here, its}
 use Rattle.desk.proofs.Walk.Values.{cabinet-data, run-data}
 use Rattle.desk_lists.specs.Names.{Cabinet, Listed, Run, Step}
@@ -36,7 +37,7 @@ use Rattle.desk_lists.proofs.Values.{listed-data, steps-data}
 use Rattle.desk_lists.proofs.entrance.list_lent as list-lent
 use Rattle.desk_lists.proofs.entrance.list_lent.Code.Mir as code
 use Rattle.desk_lists.proofs.entrance.list_lent.Proof.Callees.{MadeListed, Knows, made-listed-of}
-use Rattle.desk_lists.proofs.entrance.list_lent.Proof.Here.{the-answer, the-made, the-end, lie, Lent, State, MadeIt, ref, passed, answers-room, storing-at, Token, Slice, AnswersToken, LastAnswers, Open}
+use Rattle.desk_lists.proofs.entrance.list_lent.Proof.Here.{the-answer, the-made, the-end, lie, Lent, MadeIt, ref, passed, answers-room, storing-at, Token, Slice, AnswersToken, LastAnswers, Open}
 
 abbrev pub stayed : Stays (list-lent.ended .signature .params) (list-lent.ended .kept)
 stayed = (

@@ -31,6 +31,7 @@ use denote.Index.{place-is, elem-out, elem-put}
 use Rattle.types.specs.Parts.{noCabinet}
 use Rattle.desk.proofs.Truth.{not-of}
 use Rattle.desk.proofs.Walk.ByValue.{value, typed, calls-value}
+use Rattle.desk.proofs.Walk.Laying.{State}
 use Rattle.desk.proofs.Walk.Locals.{at, here, its, its-part}
 use Rattle.desk.proofs.Walk.Values.{cabinet-data}
 use Rattle.desk_lists.specs.Names.{Cabinet, Nine}
@@ -39,7 +40,7 @@ use Rattle.desk_lists.proofs.StoreLaws.{stored, storing, store-next, st
 use Rattle.desk_lists.proofs.entrance.list_lent.Code.Mir as code
 use Rattle.desk_lists.proofs.entrance.list_lent.Proof.Callees.{RecordAt, Knows, record-at-of}
 use Rattle.desk_lists.proofs.entrance.list_lent.Proof.Exit.{Post, Said, after-store}
-use Rattle.desk_lists.proofs.entrance.list_lent.Proof.Here.{the-table, the-after, the-j, store-word, store-test, store-record, read-place, read-record, again-word, store-place, lie, Lent, State, MadeIt, Storing, answers-room, distance-fits, TurningBack}
+use Rattle.desk_lists.proofs.entrance.list_lent.Proof.Here.{the-table, the-after, the-j, store-word, store-test, store-record, read-place, read-record, again-word, store-place, lie, Lent, MadeIt, Storing, answers-room, distance-fits, TurningBack}
 
 -- ---- the loop's state
 
