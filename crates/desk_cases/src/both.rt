@@ -1,6 +1,6 @@
 // The two entrances side by side: each step is taken by a run on its own records and by one over a lent table, and all that comes of it is compared.
-use super::sums;
 use cabinet::Cabinet;
+use cases::sums;
 use desk::Lent;
 use limits::MOST_CABINETS;
 use run::Run;

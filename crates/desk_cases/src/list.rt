@@ -1,14 +1,12 @@
 // A list through both entrances: its second row plans the run, and every row after that is a step of it.
 use super::both;
 use super::both::Both;
-use super::line::line_from;
-use plan::Planned;
-use text::Row;
-use types::Step;
+use cases::line_from;
+use cases::step_of;
 ghost use mathlib.Core.Path.{_≡_};
 ghost use Prim.Native.Nat.{_+_, _≤_};
 ghost use lib.ListN.{length};
-ghost use Rattle.desk_cases.specs.Sizes.{mostListBytes};
+ghost use Rattle.cases.specs.Sizes.{mostListBytes};
 
 // The first row that differs is counted from the plan, as in a transcript; 0: none does.
 pub struct Tally {
@@ -63,15 +61,6 @@ fn counted(t: Tally, number: u64, same: bool) -> Tally
     }
 }
 
-// A row of no step is taken as a step of no known kind, which both entrances answer 2.
-fn step_of(r: Row) -> Step {
-    match r {
-        Row::Other => Step::Other,
-        Row::Plan(_, _, _, _) => Step::Other,
-        Row::Step(s) => s,
-    }
-}
-
 fn steps(s: &[u8], from: usize, begun: Both) -> Tally
     requires { ⌜ (from ≤ length (now s)) × (length (now s) ≤ mostListBytes) ⌝ }
     ensures { λ r. ⌜ r .accepted + r .refused ≤ mostListBytes ⌝ }
@@ -91,39 +80,15 @@ fn steps(s: &[u8], from: usize, begun: Both) -> Tally
     t
 }
 
-// The rows behind the plan, if it is accepted.
-fn planned(s: &[u8], from: usize, row: Row) -> Tally
-    requires { ⌜ (from ≤ length (now s)) × (length (now s) ≤ mostListBytes) ⌝ }
-    ensures { λ r. ⌜ r .accepted + r .refused ≤ mostListBytes ⌝ }
-{
-    match row {
-        Row::Other => nothing(false),
-        Row::Plan(n, k, r, b) => {
-            let z = run::start(n, k, r, b);
-            let p = z.planned;
-            let fresh = z.run;
-            match p {
-                Planned::OutOfRange => nothing(false),
-                Planned::TooSmall => nothing(false),
-                Planned::Accepted(_) => steps(s, from, both::begin(fresh)),
-            }
-        }
-        Row::Step(_) => nothing(false),
-    }
-}
-
 // A list is held whole, in a buffer of `mostListBytes`, so that its steps can be counted.
 pub fn compare(s: &[u8]) -> Tally
     requires { ⌜ length (now s) ≤ mostListBytes ⌝ }
     ensures { λ r. ⌜ r .accepted + r .refused ≤ mostListBytes ⌝ }
 {
-    let head = line_from(s, 0);
-    let to = head.to;
-    if text::is_header(&s[..to]) {
-        let at = head.next;
-        let l = line_from(s, at);
-        let end = l.to;
-        return planned(s, l.next, text::parse(&s[at..end]));
+    let head = cases::begin(s);
+    let fresh = head.run;
+    if head.planned {
+        return steps(s, head.from, both::begin(fresh));
     }
     nothing(false)
 }

@@ -1,10 +1,8 @@
 // Takes every list that its arguments name through both entrances, a run's own records and a lent table, and says whether they agree at each
 // step; then tables of a wrong length and damaged records.
 mod both;
-mod line;
 mod list;
 mod show;
-mod sums;
 mod tables;
 
 // A list that is longer than the buffer would be cut, and its counts would show that.

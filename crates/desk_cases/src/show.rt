@@ -2,7 +2,7 @@
 use super::list::Tally;
 use libc::STDOUT_FILENO;
 ghost use Prim.Native.Nat.{_+_, _≤_};
-ghost use Rattle.desk_cases.specs.Sizes.{mostListBytes};
+ghost use Rattle.cases.specs.Sizes.{mostListBytes};
 
 fn word(s: &[u8]) {
     io::write_all(STDOUT_FILENO, s);

@@ -1,8 +1,8 @@
 // Tables of a wrong length, and damaged records: lent, the run's own, and past those lent.
 use super::both::lent_number;
 use super::show;
-use super::sums;
 use cabinet::Cabinet;
+use cases::sums;
 use limits::MOST_CABINETS;
 use run::Run;
 use types::Step;

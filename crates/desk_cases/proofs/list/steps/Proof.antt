@@ -3,7 +3,7 @@ use Prim.Native.Nat.{_+_, _-_, _≤_}
 use borrow.Author.Needs.{needs}
 use lib.ListN.{length}
 use native.Mathlib.Omega.{arith}
-use Rattle.desk_cases.specs.Sizes.{mostListBytes}
+use Rattle.cases.specs.Sizes.{mostListBytes}
 use Rattle.desk_cases.proofs.list.steps.Statement.{statement}
 use Rattle.desk_cases.proofs.list.steps.Tie as tie
 
