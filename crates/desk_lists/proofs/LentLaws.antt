@@ -9,7 +9,6 @@ use lib.ListN.{length, getD, take, replicate, length-append, length-replicate}
 use lib.Seq.{getD-take, length-take-le, take-append-seam}
 use borrow.Author.Tests.{leb-true, leb-false, ltb-true, ltb-false}
 use Rattle.limits.specs.Limits.{mostCabinets}
-use Rattle.plan.proofs.RuleLaws.{both}
 use Rattle.types.specs.Parts.{noCabinet}
 use Rattle.cabinet.specs.Cabinets.{freshCabinet}
 use Rattle.run.specs.Lists.{runAll}
@@ -21,7 +20,7 @@ use Rattle.desk.proofs.DeskLaws.{as-step, own-kept, table-length}
 use Rattle.desk.proofs.TableLaws.{put-read}
 use Rattle.desk.proofs.ViewLaws.{nineOf, too-long, view-is, lent-wrong, table-wrong}
 use Rattle.lists.specs.Whole.{mostListed, fits, numbersOf, inFront, takenOf, untakenOf, listOf}
-use Rattle.lists.proofs.ListLaws.{runs-damaged, numbers-damaged}
+use Rattle.lists.proofs.ListLaws.{fits-says, runs-damaged, numbers-damaged}
 use Rattle.desk_lists.specs.Names.{Cabinet, Listed, Made, Nine, Run, Step, Whole}
 use Rattle.desk_lists.specs.Lent.{lentRun, lentTable, lentNumbers, lentTakenOf, lentUntakenOf, lentListOf}
 use Rattle.desk_lists.specs.View.{wrongOf, madeBy, madeOf, recordAt}
@@ -155,11 +154,15 @@ module _ (run : Run) (ys : List Cabinet) (same : length ys ≡ run .plan .n) (ss
 
 -- ---- the entrance
 
+pub lent-taken : (run : Run) (ys : List Cabinet) (steps : List Step) (count : ℕ) (table : List ℕ) → fits count (length table) ≡ true
+    → lentTakenOf run ys (take count steps) table ≡ lentListOf run ys steps count table
+unfolding lentListOf
+lent-taken run ys steps count table e = rw e
+
 module _ (run : Run) (ys : List Cabinet) (steps : List Step) (count : ℕ) (table : List ℕ) (full : length steps ≡ mostListed) where
   -- the steps that are taken
   listed : fits count (length table) ≡ true → length (take count steps) ≡ count
-  unfolding fits
-  listed e = length-take-le count steps (omega (arith, leb-true count mostListed (both (leb count mostListed) (leb count (length table)) e .0)))
+  listed e = length-take-le count steps (omega (arith, fits-says count (length table) e .0))
 
   abbrev beside : List Cabinet → Listed × List ℕ → Listed × List Cabinet × List ℕ
   beside l z = (z .0, l, z .1)

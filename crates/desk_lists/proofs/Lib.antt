@@ -1,4 +1,5 @@
 pub mod BehindLaws
+pub mod CutLaws
 pub mod Decides
 pub mod LentLaws
 pub mod LocalLaws

@@ -2,6 +2,7 @@
 use mathlib.Core.List.{[], _∷_}
 use denote.Array.{Array, array-vals, array-tells, array-lawful, array-makes}
 use denote.Steps.{only}
+use Rattle.lists.specs.Whole.{mostListed}
 use Rattle.types.proofs.step.Step as step
 use Rattle.lists.proofs.Listed as listed
 use Rattle.lists.proofs.Listed.Laws as listed-laws
@@ -24,9 +25,9 @@ local-data = struct-data local.the-type local-laws.the-laws local-laws.the-plain
 -- a list of steps in an array
 abbrev pub steps-data : Data
 steps-data = record {
-  row = Array step.the-row 256;
+  row = Array step.the-row mostListed;
   val = λ ss. only (array-vals (λ s. step-data .val s ∷ []) ss);
-  tells = array-tells step.the-row (λ s. step-data .val s ∷ []) (step-data .tells) 256;
-  makes = λ 𝓤 H A W. array-makes 𝓤 H A W step.the-row (step-data .makes 𝓤 H A W) 256;
-  lawful = λ 𝓤 H A W. array-lawful 𝓤 H A W step.the-row (step-data .lawful 𝓤 H A W) 256;
+  tells = array-tells step.the-row (λ s. step-data .val s ∷ []) (step-data .tells) mostListed;
+  makes = λ 𝓤 H A W. array-makes 𝓤 H A W step.the-row (step-data .makes 𝓤 H A W) mostListed;
+  lawful = λ 𝓤 H A W. array-lawful 𝓤 H A W step.the-row (step-data .lawful 𝓤 H A W) mostListed;
 }

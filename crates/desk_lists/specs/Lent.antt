@@ -1,11 +1,11 @@
 -- A list of steps over a lent table, each taken by `lentOf`: clause S21.6 of docs/SCOPE.md.
 use Prim.Native.Nat.{ℕ}
 use mathlib.Core.Bool.{cond}
-use mathlib.Core.List.{List, [], _∷_, _++_}
+use mathlib.Core.List.{List, [], _∷_, _++_, map}
 use lib.ListN.{length, take, drop}
 use Rattle.desk.specs.Desk.{lentNumber, lentOf, tableOf}
 use Rattle.lists.specs.Whole.{fits, inFront}
-use Rattle.desk_lists.specs.Names.{Cabinet, Listed, Local, Run, Step, Whole}
+use Rattle.desk_lists.specs.Names.{Cabinet, Lent, Listed, Local, Run, Step, Whole}
 
 -- S14.4: the run after the list
 abbrev pub lentRun : Run → List Cabinet → List Step → Run
@@ -17,10 +17,14 @@ abbrev pub lentTable : Run → List Cabinet → List Step → List Cabinet
 lentTable run records [] = records
 lentTable run records (s ∷ ss) = lentTable (lentOf run records s .run) (tableOf run records s) ss
 
--- S21.6: the numbers of the answers, the steps taken singly; S12.14: 14 to each where the table has another length
+-- S14.2: the answers of the steps, taken singly
+abbrev pub lentAnswers : Run → List Cabinet → List Step → List Lent
+lentAnswers run records [] = []
+lentAnswers run records (s ∷ ss) = lentOf run records s .answer ∷ lentAnswers (lentOf run records s .run) (tableOf run records s) ss
+
+-- S21.6: their numbers; S12.14: 14 to each where the table has another length
 abbrev pub lentNumbers : Run → List Cabinet → List Step → List ℕ
-lentNumbers run records [] = []
-lentNumbers run records (s ∷ ss) = lentNumber (lentOf run records s .answer) ∷ lentNumbers (lentOf run records s .run) (tableOf run records s) ss
+lentNumbers run records ss = map lentNumber (lentAnswers run records ss)
 
 -- S21.6: what comes back, the records and the table of answers, where the steps are taken
 unfoldable pub lentTakenOf : Run → List Cabinet → List Step → List ℕ → Listed × List Cabinet × List ℕ

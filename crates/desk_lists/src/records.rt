@@ -8,6 +8,7 @@ use lists::Listed;
 use lists::MOST_LISTED;
 use lists::Whole;
 use lists::fill;
+use lists::fits;
 use lists::take_list;
 use run::Run;
 use types::Step;
@@ -21,14 +22,12 @@ const WRONG_LENGTH: u8 = 14;
 pub fn refuse(run: Run, count: usize, answers: &mut [u8]) -> Listed
     ensures { λ r. ⌜ (r, now (answers .exit)) ≡ wrongOf run count (now (answers .entry)) ⌝ }
 {
-    if count <= MOST_LISTED {
-        if count <= answers.len() {
-            fill(answers, count, WRONG_LENGTH);
-            return Listed {
-                whole: Whole::Taken,
-                run: run,
-            };
-        }
+    if fits(count, answers.len()) {
+        fill(answers, count, WRONG_LENGTH);
+        return Listed {
+            whole: Whole::Taken,
+            run: run,
+        };
     }
     Listed {
         whole: Whole::NoRoom,

@@ -7,7 +7,9 @@ use native.Mathlib.Numerals.{add-one}
 use native.Mathlib.Omega.{arith}
 use lib.ListN.{length, getD, set, take, drop, replicate, length-append, length-set, length-replicate}
 use lib.Seq.{take-suc, take-add, length-take-le}
-use borrow.Author.Tests.{le-leb, lt-leb}
+use lib.Dec.{leb}
+use borrow.Author.Tests.{le-leb, lt-leb, leb-true}
+use Rattle.plan.proofs.RuleLaws.{both}
 use Rattle.types.specs.Answers.{answerNumber}
 use Rattle.run.specs.Lists.{runAll}
 use Rattle.run.specs.Steps.{stepOf}
@@ -151,22 +153,36 @@ module _ (count number : ℕ) (table : List ℕ) where
 
 -- ---- the call
 
+module _ (count places : ℕ) where
+  pub fits-many : mostListed < count → false ≡ fits count places
+  unfolding fits
+  fits-many h = rw (lt-leb count mostListed h)
+
+  pub fits-by : count ≤ mostListed → leb count places ≡ fits count places
+  unfolding fits
+  fits-by h = rw (le-leb count mostListed h)
+
+  pub fits-made : count ≤ mostListed → count ≤ places → fits count places ≡ true
+  fits-made h g = sym (fits-by h) ∙ le-leb count places g
+
+  pub fits-says : fits count places ≡ true → (count ≤ mostListed) × (count ≤ places)
+  unfolding fits
+  fits-says e =
+      let b = both (leb count mostListed) (leb count places) e in
+      (leb-true count mostListed (b .0), leb-true count places (b .1))
+
 module _ (run : Run) (steps : List Step) (count : ℕ) (table : List ℕ) where
-  pub list-many : mostListed < count → (record { whole = Whole.NoRoom; run = run }, table) ≡ listOf run steps count table
-  unfolding listOf fits untakenOf
-  list-many h = rw (lt-leb count mostListed h)
+  pub list-untaken : fits count (length table) ≡ false → untakenOf run table ≡ listOf run steps count table
+  unfolding listOf
+  list-untaken e = rw e
 
-  pub list-few : count ≤ mostListed → length table < count → (record { whole = Whole.NoRoom; run = run }, table) ≡ listOf run steps count table
-  unfolding listOf fits untakenOf
-  list-few h g = rw (le-leb count mostListed h, lt-leb count (length table) g)
-
-  pub list-taken : count ≤ mostListed → count ≤ length table → takenOf run (take count steps) table ≡ listOf run steps count table
-  unfolding listOf fits
-  list-taken h g = rw (le-leb count mostListed h, le-leb count (length table) g)
+  pub list-taken : fits count (length table) ≡ true → takenOf run (take count steps) table ≡ listOf run steps count table
+  unfolding listOf
+  list-taken e = rw e
 
 -- ---- a list cut in two
 
-front-cut : (ns ms t u : List ℕ) → length ns ≡ length t → inFront (ns ++ ms) (t ++ u) ≡ inFront ns t ++ inFront ms u
+pub front-cut : (ns ms t u : List ℕ) → length ns ≡ length t → inFront (ns ++ ms) (t ++ u) ≡ inFront ns t ++ inFront ms u
 unfolding inFront
 front-cut [] ms [] u e = refl
 front-cut [] ms (x ∷ t) u e = absurd (omega arith)
@@ -190,10 +206,10 @@ pub list-cut : (run : Run) (steps : List Step) (i j : ℕ) (t u : List ℕ) → 
     → listOf run steps (i + j) (t ++ u) ≡ joined (listOf run steps i t) (listOf (listOf run steps i t .0 .run) (drop i steps) j u)
 unfolding takenOf
 list-cut run steps i j t u same few places listed =
-    let first = list-taken run steps i t (omega arith) (omega arith) in
-    sym (list-taken run steps (i + j) (t ++ u) few (omega (arith, length-append t u)))
+    let first = list-taken run steps i t (fits-made i (length t) (omega arith) (omega arith)) in
+    sym (list-taken run steps (i + j) (t ++ u) (fits-made (i + j) (length (t ++ u)) few (omega (arith, length-append t u))))
     ∙ ap (λ (l : List Step). takenOf run l (t ++ u)) (take-add i j steps)
     ∙ taken-cut run (take i steps) (take j (drop i steps)) t u (length-take-le i steps listed ∙ sym same)
     ∙ ap₂ joined first
-    (list-taken (runAll run (take i steps)) (drop i steps) j u (omega arith) places
+    (list-taken (runAll run (take i steps)) (drop i steps) j u (fits-made j (length u) (omega arith) places)
     ∙ ap (λ (z : Listed × List ℕ). listOf (z .0 .run) (drop i steps) j u) first)

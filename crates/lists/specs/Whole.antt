@@ -1,13 +1,13 @@
 -- A list of steps in one go: clauses S12.16 and S21.1 to S21.5 of docs/SCOPE.md.
 use Prim.Native.Nat.{ℕ}
 use mathlib.Core.Bool.{Bool, cond, _&&_}
-use mathlib.Core.List.{List, [], _∷_, _++_}
+use mathlib.Core.List.{List, [], _∷_, _++_, map}
 use lib.Dec.{leb}
 use lib.ListN.{length, take, drop}
 use Rattle.types.specs.Answers.{answerNumber}
 use Rattle.run.specs.Lists.{runAll}
 use Rattle.run.specs.Steps.{stepOf}
-use Rattle.lists.specs.Names.{Listed, Run, Step, Whole}
+use Rattle.lists.specs.Names.{Answer, Listed, Run, Step, Whole}
 
 -- S21.1: the steps that a list may have
 abbrev pub mostListed : ℕ
@@ -22,10 +22,14 @@ wholeNumber Whole.NoRoom = 16
 unfoldable pub fits : ℕ → ℕ → Bool
 fits count places = leb count mostListed && leb count places
 
--- S21.3: the numbers of the answers, the steps taken singly
+-- S21.3: the answers of the steps, taken singly
+abbrev pub answersAll : Run → List Step → List Answer
+answersAll run [] = []
+answersAll run (s ∷ ss) = stepOf run s .answer ∷ answersAll (stepOf run s .run) ss
+
+-- S21.3: their numbers
 unfoldable pub numbersOf : Run → List Step → List ℕ
-numbersOf run [] = []
-numbersOf run (s ∷ ss) = answerNumber (stepOf run s .answer) ∷ numbersOf (stepOf run s .run) ss
+numbersOf run ss = map answerNumber (answersAll run ss)
 
 -- S21.3, S21.4: the numbers take the first places, and those behind are as they were
 unfoldable pub inFront : List ℕ → List ℕ → List ℕ

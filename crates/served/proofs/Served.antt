@@ -17,19 +17,20 @@ use Rattle.desk.proofs.DeskLaws.{as-step}
 use Rattle.promise.specs.Events.{Event, events}
 use Rattle.promise.specs.Promise.{Promise}
 use Rattle.promise.proofs.Kept.{promise-always}
-use Rattle.desk_lists.specs.Lent.{lentRun, lentTable}
+use Rattle.lists.specs.Whole.{answersAll}
+use Rattle.desk_lists.specs.Lent.{lentRun, lentTable, lentAnswers}
 use Rattle.desk_lists.proofs.BehindLaws.{behind-step, same-step}
-use Rattle.served.specs.Served.{lentAnswers, ownAnswers, lentEvents, freshTable}
+use Rattle.served.specs.Served.{lentEvents, freshTable}
 use Rattle.served.proofs.EventLaws.{event-same}
 
 -- the answers
 pub as-own : (run : Run) (table : List Cabinet) (ss : List Step) → length table ≡ run .plan .n
-    → lentAnswers run table ss ≡ map Lent.Answered (ownAnswers (withRecords run table) ss)
+    → lentAnswers run table ss ≡ map Lent.Answered (answersAll (withRecords run table) ss)
 as-own run table [] same = refl
 as-own run table (s ∷ ss) same =
     ap₂ {C = List Lent} (λ a l. a ∷ l) (as-step run table s same .0)
     (as-own (lentOf run table s .run) (tableOf run table s) ss (same-step run table s same)
-    ∙ ap (λ (r : Run). map Lent.Answered (ownAnswers r ss)) (behind-step run table s same))
+    ∙ ap (λ (r : Run). map Lent.Answered (answersAll r ss)) (behind-step run table s same))
 
 -- the run behind the table after the list, and that the table still has n records
 pub behind-own : (run : Run) (table : List Cabinet) (ss : List Step) → length table ≡ run .plan .n

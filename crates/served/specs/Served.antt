@@ -1,28 +1,13 @@
--- A list of steps over a lent table (clauses S14.1 to S14.4 of docs/SCOPE.md): each goes to the run and the table that the one before
--- left; what is answered, and the events of it.
+-- The events of a list of steps over a lent table (clauses S14.1 to S14.4 and S19.6 of docs/SCOPE.md): each step goes to the run and the
+-- table that the one before left.
 use mathlib.Core.List.{List, [], _∷_}
 use lib.ListN.{replicate}
-use Rattle.served.specs.Names.{Answer, Cabinet, Lent, Run, Step}
+use Rattle.served.specs.Names.{Cabinet, Lent, Run, Step}
 use Rattle.cabinet.specs.Cabinets.{freshCabinet}
-use Rattle.run.specs.Steps.{stepOf}
 use Rattle.desk.specs.Desk.{lentOf, tableOf}
 use Rattle.promise.specs.Events.{Event, nothing, answerEvent}
 
--- ---- the answers
-
--- S14.2: what a list is answered
-abbrev pub lentAnswers : Run → List Cabinet → List Step → List Lent
-lentAnswers run table [] = []
-lentAnswers run table (s ∷ ss) = lentOf run table s .answer ∷ lentAnswers (lentOf run table s .run) (tableOf run table s) ss
-
--- S14.2: what it is answered at the first entrance
-abbrev pub ownAnswers : Run → List Step → List Answer
-ownAnswers run [] = []
-ownAnswers run (s ∷ ss) = stepOf run s .answer ∷ ownAnswers (stepOf run s .run) ss
-
--- ---- the events: those of crate promise, read off the answer and the desk's own run before and after the step
-
--- S19.6: the event of an answer; 14 has none
+-- S19.6: the event of an answer, that of crate promise, with the desk's own run before and after the step; 14 has none
 abbrev pub lentEventBy : Lent → Run → Step → Run → Event
 lentEventBy Lent.WrongLength run s after = nothing
 lentEventBy (Lent.Answered a) run s after = answerEvent run s after a

@@ -3,11 +3,12 @@ use Prim.Native.Nat.{_-_, _≤_}
 use borrow.Author.Needs.{needs}
 use lib.ListN.{length}
 use mathlib.Core.Path.{_≡_}
+use Rattle.lists.specs.Whole.{mostListed}
 use Rattle.speed.proofs.speed_singly.Statement.{statement}
 use Rattle.speed.proofs.speed_singly.Tie as tie
 
 abbrev Inv-loop : tie.InvT-loop
-Inv-loop turns steps r₀ i₀ r i = (i ≤ turns) × (length steps ≡ 256)
+Inv-loop turns steps r₀ i₀ r i = (i ≤ turns) × (length steps ≡ mostListed)
 
 abbrev μ-loop : tie.MeasureT-loop
 μ-loop turns steps r₀ i₀ r i = turns - i

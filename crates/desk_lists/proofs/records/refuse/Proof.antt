@@ -1,23 +1,40 @@
 -- `refuse` meets its contract: each way to its answer. Assumes nothing.
 use borrow.Author.Needs.{needs}
-use Rattle.desk_lists.proofs.ViewLaws.{wrong-many, wrong-few, wrong-all}
+use lib.ListN.{length}
+use mathlib.Core.Bool.{Bool, true, false}
+use mathlib.Core.Path.{_≡_, sym, _∙_}
+use Rattle.lists.specs.Whole.{fits, untakenOf}
+use Rattle.lists.proofs.ListLaws.{fits-says}
+use Rattle.desk_lists.proofs.ViewLaws.{wrong-untaken, wrong-all}
 use Rattle.desk_lists.proofs.records.refuse.Statement.{statement}
 use Rattle.desk_lists.proofs.records.refuse.Tie as tie
+
+-- the call, from where it was seen whether the list fits
+abbrev start : tie.After-fits2 → tie.Start
+start f = f .before .before
+
+fitting : (f : tie.After-fits2) (b : Bool) → f .fits2 .result ≡ b → let a = start f .args in fits (a .count) (length (a .answers .now)) ≡ b
+fitting f b e = sym (f .fits2 .ensures) ∙ e
+
+fill-requires : tie.Need-fill-requires
+fill-requires c κs =
+    let f = c .before .before in
+    let a = start f .args in
+    fits-says (a .count) (length (a .answers .now)) (fitting f true (c .before .if1 .taken)) .1
 
 returns : tie.Need-returns
 returns c =
     let e = c .before .before in
-    let b = e .before .before in
-    let a = b .before .before .before .args in
-    wrong-all (a .run) (a .count) (a .answers .now) _ (b .before .if1 .taken) (b .if2 .taken) (e .fill .ensures)
+    let f = e .before .before .before in
+    let a = start f .args in
+    wrong-all (a .run) (a .count) (a .answers .now) _ (fitting f true (e .before .before .if1 .taken)) (e .fill .ensures)
 
 returns-2 : tie.Need-returns-2
+unfolding untakenOf
 returns-2 c =
-    let a = c .before .before .before .args in
-    wrong-few (a .run) (a .count) (a .answers .now) (c .before .if1 .taken) (c .if2 .left)
-
-returns-3 : tie.Need-returns-3
-returns-3 c = let a = c .before .before .args in wrong-many (a .run) (a .count) (a .answers .now) (c .if1 .left)
+    let f = c .before in
+    let a = start f .args in
+    wrong-untaken (a .run) (a .count) (a .answers .now) (fitting f false (c .if1 .left))
 
 pub refuse-spec : {M : Type 1} → statement M
-refuse-spec = tie.close (tie.spec (λ c κs. search needs) (λ c. search needs) returns returns-2 returns-3)
+refuse-spec = tie.close (tie.spec (λ c κs. search needs) fill-requires (λ c. search needs) returns returns-2)

@@ -13,6 +13,7 @@ use types.Kit.{Given}
 use denote.Triple.Statement.{Contract, Triple}
 use denote.Triple.Clauses.{ensured}
 use denote.Triple.Spec.{tripleOf}
+use Rattle.limits.specs.Limits.{mostCabinets}
 use Rattle.desk.proofs.few as few
 use Rattle.desk.proofs.few.Symbol.{name as #few}
 use Rattle.desk.proofs.Walk.ByValue.{usize-data, IsIt, asked, clause, Returns}
@@ -46,10 +47,10 @@ module _ {M : Type 1} {𝓤 : URA M} {H : Heap 𝓤} {A : Atoms 𝓤} (W : Given
     ghost = ((tt, tt, tt, (len, tt), (usize-data .val len ∷ [], tt)), tt);
     asks = asked W ((usize-data, len, is) ∷ []);
     type = usize-data;
-    result = min len 9;
+    result = min len mostCabinets;
     Ensured = ensured 𝓤 H A few.ended (few.clauses 𝓤 H A at-mem run) tt (len, tt) tt;
     ends = λ v. id⊢ 𝓤 _;
-    says = λ z. clause W few.ended tt (len, tt) (z ≡ min len 9);
+    says = λ z. clause W few.ended tt (len, tt) (z ≡ min len mostCabinets);
   }
 
   abbrev pub pack-of : (r : Listed) (zs : List Cabinet) → IsIt listed-data r → IsIt records-data zs → Returns W (Pack 𝓤 H A at-mem run)

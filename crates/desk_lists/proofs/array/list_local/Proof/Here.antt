@@ -14,6 +14,8 @@ use denote.Builtin.{u8}
 use denote.Memory.{pointee}
 use denote.Ref.{RefT}
 use denote.Slice.{sliceTy, sliceVal, MutSlice, Room, finally}
+use Rattle.limits.specs.Limits.{mostCabinets}
+use Rattle.lists.specs.Whole.{mostListed}
 use Rattle.types.proofs.step.Step.Laws as step-laws
 use Rattle.run.proofs.Run.Laws as run-laws
 use Rattle.lists.proofs.Listed.Laws as listed-laws
@@ -93,7 +95,7 @@ byte = tyInt w8
 -- and where they lie in memory
 abbrev pub lie : (ℕ → ℕ) → List (Ty × ℕ)
 lie l =
-    (local-laws.mir, l 0) ∷ (run-laws.mir, l 1) ∷ (array, l 2) ∷ (word, l 3) ∷ (tyArray step-laws.mir 256, l 4) ∷ (word, l 5)
+    (local-laws.mir, l 0) ∷ (run-laws.mir, l 1) ∷ (array, l 2) ∷ (word, l 3) ∷ (tyArray step-laws.mir mostListed, l 4) ∷ (word, l 5)
     ∷ (sliceTy (tyRef (named 0) mut byte), l 6) ∷ (array, l 7) ∷ (word, l 8) ∷ (listed-laws.mir, l 9)
     ∷ (tyRef erased mut (pointee (records-data .row .written)), l 10) ∷ (slice, l 11) ∷ (tyRef erased mut byte, l 12)
     ∷ (sliceTy (tyRef erased mut byte), l 13) ∷ (array, l 14) ∷ []
@@ -116,7 +118,7 @@ pub record Passed : Type 0 where
   pub before : List ℕ
   pub is-own : IsIt run-data own
   pub is-ys : IsIt records-data ys
-  pub full : length ys ≡ 9
+  pub full : length ys ≡ mostCabinets
   pub len-fits : len < 2 ^ 64
   pub is-steps : IsIt steps-data steps
   pub count-fits : count < 2 ^ 64
@@ -125,15 +127,15 @@ pub record Passed : Type 0 where
 module _ (P : Passed) where
   -- how many records are lent, these, and the others
   abbrev pub few : ℕ
-  few = min (P .len) 9
+  few = min (P .len) mostCabinets
 
   abbrev pub front : List Cabinet
-  front = take (min (P .len) 9) (P .ys)
+  front = take (min (P .len) mostCabinets) (P .ys)
 
   abbrev pub back : List Cabinet
-  back = drop (min (P .len) 9) (P .ys)
+  back = drop (min (P .len) mostCabinets) (P .ys)
 
-  pub few-fits : min (P .len) 9 < 2 ^ 64
+  pub few-fits : min (P .len) mostCabinets < 2 ^ 64
   few-fits = let fits = P .len-fits in omega arith
 
   -- those lent have room

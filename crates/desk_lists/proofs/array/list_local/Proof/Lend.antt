@@ -37,6 +37,7 @@ use denote.Triple.Entry.{Vals}
 use denote.Triple.Walked.{says, Stays, stay-none, gave-slice, walkOf, ends-at}
 use denote.Builtin.{u8, usize}
 use denote.Exit.{yes}
+use Rattle.limits.specs.Limits.{mostCabinets}
 use Rattle.lists.proofs.Listed.Laws as listed-laws
 use Rattle.desk.proofs.ViewLaws.{cap-length, cap-rest}
 use Rattle.desk.proofs.Walk.Records.{array, array-out, array-in, apart, joined}
@@ -106,7 +107,7 @@ module _ {M : Type 1} {𝓤 : URA M} {H : Heap 𝓤} {A : Atoms 𝓤} (W : Given
   abbrev Said : Listed → List Cabinet → List ℕ → Type 0
   Said r zs after = (r, zs, after) ≡ lentListOf (P .own) (front P) (P .steps) (P .count) (P .before)
 
-  nine-again : (zs : List Cabinet) → length zs ≡ length (front P) → length (zs ++ back P) ≡ 9
+  nine-again : (zs : List Cabinet) → length zs ≡ length (front P) → length (zs ++ back P) ≡ mostCabinets
   nine-again zs same =
       let p = length-append zs (back P) in
       let q = cap-length (P .len) (P .ys) (P .full) in

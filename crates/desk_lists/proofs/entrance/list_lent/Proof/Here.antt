@@ -15,6 +15,7 @@ use denote.Ref.{RefT}
 use denote.Slice.{sliceTy, sliceVal, MutSlice, Room, heres, codedHoleys, at-slice}
 use denote.Lend.{Held}
 use denote.Index.{row}
+use Rattle.lists.specs.Whole.{mostListed}
 use Rattle.types.proofs.step.Step.Laws as step-laws
 use Rattle.cabinet.proofs.record.Cabinet.Laws as cabinet-laws
 use Rattle.run.proofs.Run.Laws as run-laws
@@ -145,7 +146,7 @@ byte-slice ℓ = sliceTy (to-byte ℓ)
 -- and where they lie in memory
 abbrev pub lie : (ℕ → ℕ) → List (Ty × ℕ)
 lie l =
-    (listed-laws.mir, l 0) ∷ (run-laws.mir, l 1) ∷ (slice, l 2) ∷ (tyArray step-laws.mir 256, l 3) ∷ (word, l 4)
+    (listed-laws.mir, l 0) ∷ (run-laws.mir, l 1) ∷ (slice, l 2) ∷ (tyArray step-laws.mir mostListed, l 3) ∷ (word, l 4)
     ∷ (byte-slice (named 1), l 5) ∷ (word, l 6) ∷ (nine-laws.mir, l 7) ∷ (word, l 8) ∷ (made-laws.mir, l 9) ∷ (nine-laws.mir, l 10)
     ∷ (word, l 11) ∷ (word, l 12) ∷ (tyBool, l 13) ∷ (to-byte erased, l 14) ∷ (byte-slice erased, l 15) ∷ (word, l 16) ∷ (tyBool, l 17)
     ∷ (tyPtr, l 18) ∷ (cabinet-laws.mir, l 19) ∷ (to-byte erased, l 20) ∷ (byte-slice erased, l 21) ∷ (word, l 22) ∷ (tyBool, l 23)
@@ -168,7 +169,7 @@ pub record Lent : Type 0 where
   pub ys : List Cabinet
   pub is-own : IsIt run-data own
   pub is-steps : IsIt steps-data steps
-  pub full : length steps ≡ 256
+  pub full : length steps ≡ mostListed
   pub count-fits : count < 2 ^ 64
   pub room : Room (cabinet-data .row) (length ys)
 
