@@ -5,7 +5,7 @@ use mathlib.Core.Bool.{Bool, true, false, cond, _&&_}
 use native.Mathlib.Omega.{arith}
 use lib.Dec.{leb}
 use borrow.Author.Tests.{leb-true, leb-false}
-use Rattle.limits.specs.Limits.{mostClients, mostOlder, mostSlots, mostSteps}
+use Rattle.limits.specs.Limits.{mostClients, mostSlots, mostSteps, toFactory}
 use Rattle.plan.proofs.RuleLaws.{both}
 use Rattle.cabinet.specs.Entries.{readingIn}
 use Rattle.admit.specs.Names.{Asked, Refusal, Step, Work}
@@ -38,7 +38,7 @@ FirstIn Work.FirstRead = Unit {0}
 FirstIn Work.SecondWrite = ⊥
 FirstIn Work.SecondRead = ⊥
 
--- clients below 8, cabinets below n, slots below 64, and 1 to 7 versions back
+-- clients below 8, cabinets below n, slots below 64, and 1 to 8 for a rollback
 abbrev pub Placed : ℕ → Asked → Type 0
 Placed n (Asked.Barred why) = Unit {0}
 Placed n (Asked.Begins i w) = (i < mostClients) × FirstIn w
@@ -48,7 +48,7 @@ Placed n (Asked.Loses j) = j < mostSlots
 Placed n (Asked.Stops p) = p < n
 Placed n (Asked.Leaves i) = i < mostClients
 Placed n (Asked.Restarts p) = p < n
-Placed n (Asked.RollsBack p j) = (p < n) × (1 ≤ j) × (j ≤ mostOlder)
+Placed n (Asked.RollsBack p j) = (p < n) × (1 ≤ j) × (j ≤ toFactory)
 
 pub range-placed : (n : ℕ) (s : Step) → inRange n s ≡ true → Placed n (placed s)
 unfolding inRange placed
@@ -61,7 +61,7 @@ range-placed n (Step.Lose j) e = let h = one-to-is mostSlots j e in omega arith
 range-placed n (Step.Stop k) e = let h = one-to-is n k e in omega arith
 range-placed n (Step.Leave c) e = let h = one-to-is mostClients c e in omega arith
 range-placed n (Step.Restart k) e = let h = one-to-is n k e in omega arith
-range-placed n (Step.Rollback k j) e = let h = two k n j mostOlder e in (omega arith, omega arith, omega arith)
+range-placed n (Step.Rollback k j) e = let h = two k n j toFactory e in (omega arith, omega arith, omega arith)
 
 -- a step is barred, or it is in range and fewer than 1,000,000 steps were accepted before it
 pub admitted-by : (n steps : ℕ) (s : Step) (P : Asked → Type 0) → ((why : Refusal) → P (Asked.Barred why))

@@ -2,7 +2,7 @@
 use Prim.Native.Nat.{ℕ, _-_}
 use mathlib.Core.Bool.{Bool, false, cond, _&&_}
 use lib.Dec.{leb}
-use Rattle.limits.specs.Limits.{mostClients, mostOlder, mostSlots, mostSteps}
+use Rattle.limits.specs.Limits.{mostClients, mostSlots, mostSteps, toFactory}
 use Rattle.cabinet.specs.Entries.{readingIn}
 use Rattle.admit.specs.Names.{Asked, Refusal, Step, Work}
 
@@ -21,7 +21,7 @@ inRange n (Step.Lose j) = oneTo mostSlots j
 inRange n (Step.Stop k) = oneTo n k
 inRange n (Step.Leave c) = oneTo mostClients c
 inRange n (Step.Restart k) = oneTo n k
-inRange n (Step.Rollback k j) = oneTo n k && oneTo mostOlder j
+inRange n (Step.Rollback k j) = oneTo n k && oneTo toFactory j
 
 -- S5.1: what is asked for, with clients, cabinets and slots from 0
 unfoldable pub placed : Step → Asked

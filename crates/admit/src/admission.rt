@@ -88,7 +88,7 @@ pub fn admit(n: u8, steps: u32, s: Step) -> Asked
         ),
         Step::Restart(k) => let_in(one_to(n, k), steps, Asked::Restarts(place(k))),
         Step::Rollback(k, j) => let_in(
-            both(one_to(n, k), one_to(byte::MOST_OLDER, j)),
+            both(one_to(n, k), one_to(byte::TO_FACTORY, j)),
             steps,
             Asked::RollsBack(place(k), j),
         ),

@@ -9,7 +9,7 @@ use Rattle.limits.specs.Limits.{mostClients, mostVersions}
 use Rattle.guard.specs.Names.{Cabinet, Client, Entry, Heard, Plan, Reading, Stamp}
 use Rattle.plan.proofs.RuleLaws.{both}
 use Rattle.cabinet.specs.Cabinets.{freshCabinet}
-use Rattle.cabinet.specs.Entries.{readingIn, isUnknown, isFactory, factoryEntry}
+use Rattle.cabinet.specs.Entries.{readingIn, isUnknown, isFactoryStamp, isFactory, factoryEntry}
 use Rattle.heard.specs.Heard.{countOf, withinOf}
 use Rattle.types.specs.Parts.{storedIn}
 use Rattle.guard.specs.All.{allFrom}
@@ -54,9 +54,9 @@ unknown-says Reading.Closed h = absurd (let z : _≡_ {A = ℕ} 0 1 = cc in omeg
 pub factory-says : (e : Entry) → isFactory e ≡ true → e ≡ factoryEntry
 unfolding isFactory
 factory-says e h =
-    let a = both (eqb (e .stamp .counter) 0) _ h in
-    let b = both (eqb (e .stamp .writer) 0) _ (a .1) in
-    same (eqb-true _ _ (a .0)) (eqb-true _ _ (b .0)) (unknown-says (e .reading) (b .1))
+    let a = both (isFactoryStamp (e .stamp)) _ h in
+    let b = both (eqb (e .stamp .counter) 0) _ (a .0) in
+    same (eqb-true _ _ (b .0)) (eqb-true _ _ (b .1)) (unknown-says (e .reading) (a .1))
   where
     same : e .stamp .counter ≡ 0 → e .stamp .writer ≡ 0 → e .reading ≡ Reading.Unknown → e ≡ factoryEntry
     same c w r = rw (c, w, r)

@@ -1,5 +1,5 @@
 -- The limits of a line, each with the clause of docs/SCOPE.md that sets it.
-use Prim.Native.Nat.{ℕ, _-_}
+use Prim.Native.Nat.{ℕ}
 
 -- S1.2: a line has at least so many cabinets
 abbrev pub fewestCabinets : ℕ
@@ -21,9 +21,9 @@ mostSlots = 64
 abbrev pub mostVersions : ℕ
 mostVersions = 8
 
--- S11.4: as far as a rollback may go, to the oldest of these
-abbrev pub mostOlder : ℕ
-mostOlder = mostVersions - 1
+-- S11.7: the j that stands for the factory entry, one more than a version that is kept can be older; S12.2: none is greater
+abbrev pub toFactory : ℕ
+toFactory = mostVersions
 
 -- S1.6: the steps that a run accepts
 abbrev pub mostSteps : ℕ

@@ -7,4 +7,4 @@ pub const MOST_SLOTS: u8 = super::MOST_SLOTS as u8;
 
 pub const MOST_VERSIONS: u8 = super::MOST_VERSIONS as u8;
 
-pub const MOST_OLDER: u8 = super::MOST_OLDER as u8;
+pub const TO_FACTORY: u8 = super::TO_FACTORY as u8;

@@ -4,13 +4,15 @@ use mathlib.Core.Path.{_≡_, refl, ap, _∙_}
 use mathlib.Core.Bool.{Bool, true, false, cond, not, _&&_, _||_}
 use mathlib.Core.List.{List, [], _∷_}
 use native.Mathlib.Omega.{arith}
-use lib.Dec.{leb, ltb}
+use lib.Dec.{eqb, leb, ltb}
 use lib.ListN.{length}
 use borrow.Author.Tests.{ltb-true, ltb-false, lt-ltb, le-ltb, lt-leb, le-leb}
-use Rattle.limits.specs.Limits.{mostOlder, mostSlots}
+use Rattle.limits.specs.Limits.{mostSlots, toFactory}
 use Rattle.numbers.specs.Names.{Change, Decision, Deed, Outcome, Refusal, Step, Told}
-use Rattle.numbers.specs.Names.{Body, Client, Heard, Held, Message, Plan, Power, Run, Sight, Slot, Work}
+use Rattle.numbers.specs.Names.{Body, Client, Heard, Held, Message, Plan, Power, Run, Sight, Slot, Stamp, Work}
 use Rattle.plan.proofs.RuleLaws.{both}
+use Rattle.cabinet.specs.Entries.{isFactoryStamp}
+use Rattle.cabinet.specs.Cabinets.{hasVersion}
 use Rattle.heard.specs.Heard.{countOf}
 use Rattle.types.specs.Answers.{refusalNumber}
 use Rattle.types.specs.Parts.{sightOf, storedIn}
@@ -50,6 +52,16 @@ enough-is r others = go (ltb others r) refl
     go : (t : Bool) → ltb others r ≡ t → leb r others ≡ not t
     go true e = lt-leb r others (omega (arith, ltb-true others r e))
     go false e = le-leb r others (omega (arith, ltb-false others r e))
+
+back-is : (stored : Bool) (present : Stamp) (kept j : ℕ) → 1 ≤ j
+    → hasVersion stored present kept j ≡ (stored && not (cond (eqb j toFactory) (isFactoryStamp present) (ltb (kept - 1) j)))
+unfolding hasVersion
+back-is stored present kept j h = rw (fewer-is kept j h) (go (eqb j toFactory) stored (isFactoryStamp present) (ltb j kept))
+  where
+    go : (f s x t : Bool) → cond f (s && not x) (s && t) ≡ (s && not (cond f x (not t)))
+    go true s x t = refl
+    go false s x true = refl
+    go false s x false = refl
 
 -- ---- the number of each decision
 
@@ -134,20 +146,22 @@ stops-num Power.Stale p = refl
 
 rolls-num : (plan : Plan) (p j : ℕ) (k : Sight) (others : ℕ) → 1 ≤ j
     → num (rollsOf plan p j k others)
-    ≡ cond (not (storedIn plan p) || ltb (k .kept - 1) j) 10 (cond (not (k .marked) && leb (plan .r) others) 11 0)
+    ≡ cond (not (storedIn plan p) || cond (eqb j toFactory) (isFactoryStamp (k .present .stamp)) (ltb (k .kept - 1) j)) 10
+    (cond (not (k .marked) && leb (plan .r) others) 11 0)
 unfolding rollsOf
 rolls-num plan p j k others h =
-    rw (fewer-is (k .kept) j h, enough-is (plan .r) others) (go (storedIn plan p) (ltb j (k .kept)) (k .marked) (ltb others (plan .r)))
+    rw (back-is (storedIn plan p) (k .present .stamp) (k .kept) j h, enough-is (plan .r) others)
+    (go (storedIn plan p) (cond (eqb j toFactory) (isFactoryStamp (k .present .stamp)) (ltb (k .kept - 1) j)) (k .marked) (ltb others (plan .r)))
   where
     go : (s t m u : Bool)
         → num
-        (cond (s && t) (cond (m || u) (Decision.Yes Outcome.RolledBack (Change.OfCabinet p (Deed.GoBack j))) (Decision.No Refusal.TooMany))
+        (cond (s && not t) (cond (m || u) (Decision.Yes Outcome.RolledBack (Change.OfCabinet p (Deed.GoBack j))) (Decision.No Refusal.TooMany))
         (Decision.No Refusal.NoVersion))
-        ≡ cond (not s || not t) 10 (cond (not m && not u) 11 0)
-    go true true true u = refl
-    go true true false true = refl
-    go true true false false = refl
-    go true false m u = refl
+        ≡ cond (not s || t) 10 (cond (not m && not u) 11 0)
+    go true false true u = refl
+    go true false false true = refl
+    go true false false false = refl
+    go true true m u = refl
     go false t m u = refl
 
 -- ---- of a step in range
@@ -170,5 +184,5 @@ module _ (run : Run) (size : length (run .slots) ≡ mostSlots) where
   placed-num (Step.Leave c) e = leaves-num (clientAt run (c - 1) .work) _ _
   placed-num (Step.Restart k) e = refl
   placed-num (Step.Rollback k j) e =
-      let back = one-to-is mostOlder j (both (oneTo (run .plan .n) k) (oneTo mostOlder j) e .1) in
+      let back = one-to-is toFactory j (both (oneTo (run .plan .n) k) (oneTo toFactory j) e .1) in
       rolls-num (run .plan) (k - 1) j (sightOf (cabinetAt run (k - 1))) (othersFrom (k - 1) 0 (run .cabinets)) (back .0)

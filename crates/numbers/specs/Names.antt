@@ -1,5 +1,6 @@
 -- The types that this crate speaks of, under one roof.
 pub use Rattle.plan.specs.declared.Plan.{Plan}
+pub use Rattle.cabinet.specs.declared.entry.Stamp.{Stamp}
 pub use Rattle.cabinet.specs.declared.record.Power.{Power}
 pub use Rattle.cabinet.specs.declared.record.Cabinet.{Cabinet}
 pub use Rattle.heard.specs.declared.Heard.{Heard}

@@ -5,8 +5,10 @@ use mathlib.Core.Bool.{Bool, true, false, cond, not, _&&_, _||_}
 use mathlib.Core.List.{List, [], _∷_}
 use lib.Dec.{eqb, leb, ltb}
 use lib.ListN.{length}
-use Rattle.limits.specs.Limits.{mostSteps}
+use Rattle.limits.specs.Limits.{mostSteps, toFactory}
 use Rattle.numbers.specs.Names.{Cabinet, Run, Slot, Step, Work}
+use Rattle.cabinet.specs.Entries.{isFactoryStamp}
+use Rattle.cabinet.specs.Cabinets.{presentOf}
 use Rattle.types.specs.Parts.{storedIn}
 use Rattle.admit.specs.Admit.{inRange}
 use Rattle.server.specs.Deeds.{isDown}
@@ -94,9 +96,13 @@ noMessage run j = check (isEmpty (slotAt run (j - 1) .held)) 8
 abbrev pub alreadyDown : Run → ℕ → Check
 alreadyDown run k = check (isDown (cabinetAt run (k - 1) .power)) 9
 
--- S12.10: nothing so old is kept
+-- S12.10: the factory entry is held already, or nothing so old is kept
+abbrev pub nothingBack : Cabinet → ℕ → Bool
+nothingBack k j = cond (eqb j toFactory) (isFactoryStamp (presentOf k .stamp)) (ltb (k .kept - 1) j)
+
+-- S12.10: no store, or nothing to go back to
 abbrev pub noVersion : Run → ℕ → ℕ → Check
-noVersion run k j = check (not (storedIn (run .plan) (k - 1)) || ltb (cabinetAt run (k - 1) .kept - 1) j) 10
+noVersion run k j = check (not (storedIn (run .plan) (k - 1)) || nothingBack (cabinetAt run (k - 1)) j) 10
 
 -- S12.11: one cabinet too many
 abbrev pub tooMany : Run → ℕ → Check

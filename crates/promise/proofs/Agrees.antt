@@ -8,7 +8,7 @@ use lib.Dec.{leb, ltb}
 use Rattle.limits.specs.Limits.{mostClients, mostSlots}
 use Rattle.promise.specs.Names.{Asked, Body, Change, Client, Decision, Deed, Ending, Entry, Heard, Held, Message, Outcome, Plan, Power, Refusal, Run, Sight, Standing, Step, Told, Work}
 use Rattle.plan.proofs.RuleLaws.{both}
-use Rattle.cabinet.specs.Cabinets.{keepsOlder}
+use Rattle.cabinet.specs.Cabinets.{hasVersion}
 use Rattle.heard.specs.Heard.{withOf, countOf}
 use Rattle.types.specs.Parts.{sightOf, storedIn}
 use Rattle.client.specs.Begin.{standingOf, beginsBy, beginsOf, sendsBy, sendsOf, leavesBy, leavesOf, requestSlot}
@@ -141,7 +141,7 @@ module _ (run : Run) (s : Step) where
 
   rolls-ok : (plan : Plan) (q j : ℕ) (k : Sight) (n : ℕ) → Ok (rollsOf plan q j k n)
   unfolding rollsOf
-  rolls-ok plan q j k n = go (keepsOlder (storedIn plan q) (k .kept) j) (k .marked || ltb n (plan .r))
+  rolls-ok plan q j k n = go (hasVersion (storedIn plan q) (k .present .stamp) (k .kept) j) (k .marked || ltb n (plan .r))
     where
       go : (t u : Bool)
           → Ok

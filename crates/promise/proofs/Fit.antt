@@ -8,9 +8,9 @@ use lib.ListN.{getD, take, drop, length}
 use lib.Seq.{getD-drop}
 use Rattle.limits.specs.Limits.{mostVersions}
 use Rattle.promise.specs.Names.{Cabinet, Entry, Profile}
-use Rattle.cabinet.specs.Cabinets.{presentOf, taken, offered, stopped, restarted, keepsOlder, olderBy, rolledBack}
+use Rattle.cabinet.specs.Cabinets.{presentOf, taken, offered, stopped, restarted, rolledBack}
 use Rattle.cabinet.specs.Entries.{factoryEntry}
-use Rattle.cabinet.proofs.CabinetLaws.{offer-taken, offer-kept, taken-shows}
+use Rattle.cabinet.proofs.CabinetLaws.{offer-taken, offer-kept, taken-shows, rolled-by}
 use Rattle.cabinet.proofs.ListLaws.{getD-filled}
 use Rattle.types.specs.Parts.{isForgetful}
 use Rattle.promise.proofs.Stamps.{_⊑_, _⊏_, ⊑-refl, ⊏-⊑, later-cases}
@@ -98,17 +98,16 @@ fit-restarted Profile.Store false y q =
 -- marked for good, where there is a store; without one nothing happens
 pub fit-rolled : (f : Profile) (stored : Bool) (j : ℕ) (y : Cabinet) → (f ≡ Profile.Forgetful → stored ≡ false)
     → Fit f stored (λ d. ⊥) y (rolledBack stored j y)
-unfolding rolledBack
-fit-rolled Profile.Forgetful true j y q = absurd (true≢false (q refl))
-fit-rolled f false j y q = fit-same f false (λ d. ⊥) y
-fit-rolled Profile.Store true j y q = go (keepsOlder true (y .kept) j)
-  where
-    go : (t : Bool) → Fit Profile.Store true (λ d. ⊥) y (cond t (olderBy j y) y)
-    go false = fit-same Profile.Store true (λ d. ⊥) y
-    go true =
-        record {
-          up = inr refl;
-          lapsed-on = λ h. refl;
-          weak-on = λ h. refl;
-          from = λ i. inl (j + i, sym (getD-filled (drop j (y .versions)) (min j mostVersions) i factoryEntry ∙ getD-drop j (y .versions) i factoryEntry));
-        }
+fit-rolled Profile.Forgetful stored j y q =
+    rolled-by (Fit Profile.Forgetful stored (λ d. ⊥) y) stored j y (fit-same Profile.Forgetful stored (λ d. ⊥) y)
+    (λ s. absurd (true≢false (sym s ∙ q refl))) (λ s low. absurd (true≢false (sym s ∙ q refl)))
+fit-rolled Profile.Store stored j y q =
+    rolled-by (Fit Profile.Store stored (λ d. ⊥) y) stored j y (fit-same Profile.Store stored (λ d. ⊥) y)
+    (λ s. record { up = inr refl; lapsed-on = λ h. refl; weak-on = λ h. refl; from = λ i. inr (inr (getD-filled [] mostVersions i factoryEntry)) })
+    (λ s low.
+    record {
+      up = inr refl;
+      lapsed-on = λ h. refl;
+      weak-on = λ h. refl;
+      from = λ i. inl (j + i, sym (getD-filled (drop j (y .versions)) (min j mostVersions) i factoryEntry ∙ getD-drop j (y .versions) i factoryEntry));
+    })

@@ -11,7 +11,8 @@ use borrow.Author.Tests.{ltb-true, ne-eqb}
 use Rattle.promise.specs.Names.{Asked, Cabinet, Decision, Deed, Entry, Plan, Planned, Run, Step}
 use Rattle.plan.specs.Rule.{planOf}
 use Rattle.plan.proofs.RuleLaws.{numbers}
-use Rattle.cabinet.specs.Cabinets.{presentOf, taken, offered, restarted, keepsOlder, olderBy, rolledBack}
+use Rattle.cabinet.specs.Cabinets.{presentOf, taken, offered, restarted, rolledBack}
+use Rattle.cabinet.proofs.CabinetLaws.{rolled-by}
 use Rattle.cabinet.specs.Entries.{takes}
 use Rattle.types.specs.Parts.{noCabinet}
 use Rattle.server.specs.Deeds.{deedOf}
@@ -73,12 +74,7 @@ restarted-marked false forgetful k = refl
 
 -- a marked one stays marked
 rolled-marked : (stored : Bool) (j : ℕ) (k : Cabinet) → k .marked ≡ true → rolledBack stored j k .marked ≡ k .marked
-unfolding rolledBack
-rolled-marked stored j k h = go (keepsOlder stored (k .kept) j)
-  where
-    go : (t : Bool) → cond t (olderBy j k) k .marked ≡ k .marked
-    go true = sym h
-    go false = refl
+rolled-marked stored j k h = rolled-by (λ (y : Cabinet). y .marked ≡ k .marked) stored j k refl (λ s. sym h) (λ s low. sym h)
 
 -- ---- a step
 

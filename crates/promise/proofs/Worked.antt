@@ -5,7 +5,7 @@ use mathlib.Core.Path.{_≡_, refl}
 use mathlib.Core.List.{List, [], _∷_}
 use Rattle.promise.specs.Names.{Answer, Entry, Outcome, Planned, Reading, Refusal, Run, Step}
 use Rattle.plan.specs.Rule.{forgetfulPlan, storePlan, isRuled, planOf, chosen as chosenPlan, inRange as planInRange}
-use Rattle.cabinet.specs.Cabinets.{offered, taken, restarted, rolledBack}
+use Rattle.cabinet.specs.Cabinets.{offered, taken, restarted, hasVersion, rolledBack}
 use Rattle.cabinet.specs.Entries.{laterThan, isFactory}
 use Rattle.heard.specs.Heard.{hasOf, voiceOf, withOf, howMany, countOf, withinOf}
 use Rattle.client.specs.Begin.{beginsOf, sendsOf, leavesOf}
@@ -84,7 +84,7 @@ pub record Worked : Type 0 where
 
 -- every definition that a step uses is opened, so that the lists compute
 pub worked : Worked
-unfolding freshRun startOf isRuled planOf chosenPlan planInRange laterThan isFactory offered taken restarted rolledBack hasOf voiceOf withOf howMany countOf withinOf beginsOf sendsOf leavesOf toldOf bestOf firstWrite firstRead second hearsOf oneTo inRange placed admitOf answersOf rollsOf deedOf allFrom stampSound entrySound requestSound replySound addressSound slotSound versionSound keptSound recordSound isFresh cabinetSound heardSound clientSound firstFrom othersFrom stepOf goOf changed doneAt decideOf clientAt slotAt cabinetAt undamaged restSound event
+unfolding freshRun startOf isRuled planOf chosenPlan planInRange laterThan isFactory offered taken restarted hasVersion rolledBack hasOf voiceOf withOf howMany countOf withinOf beginsOf sendsOf leavesOf toldOf bestOf firstWrite firstRead second hearsOf oneTo inRange placed admitOf answersOf rollsOf deedOf allFrom stampSound entrySound requestSound replySound addressSound slotSound versionSound keptSound recordSound isFresh cabinetSound heardSound clientSound firstFrom othersFrom stepOf goOf changed doneAt decideOf clientAt slotAt cabinetAt undamaged restSound event
 worked =
     record {
       forgetful-planned = refl;

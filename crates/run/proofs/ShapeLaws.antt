@@ -10,7 +10,8 @@ use lib.Seq.{getD-set-same, getD-set-other}
 use borrow.Author.Tests.{eqb-true, eqb-false}
 use Rattle.limits.specs.Limits.{mostCabinets, mostClients, mostSlots, mostVersions}
 use Rattle.run.specs.Names.{Cabinet, Change, Deed, Entry, Plan, Run, Step}
-use Rattle.cabinet.specs.Cabinets.{freshCabinet, presentOf, taken, offered, restarted, keepsOlder, olderBy, rolledBack}
+use Rattle.cabinet.specs.Cabinets.{freshCabinet, presentOf, taken, offered, restarted, rolledBack}
+use Rattle.cabinet.proofs.CabinetLaws.{rolled-by}
 use Rattle.cabinet.specs.Entries.{takes}
 use Rattle.types.specs.Parts.{noCabinet}
 use Rattle.server.specs.Deeds.{deedOf}
@@ -64,12 +65,9 @@ restarted-places false forgetful k h = refl
 
 rolled-places : (stored : Bool) (j : ℕ) (k : Cabinet) → length (k .versions) ≡ mostVersions
     → length (rolledBack stored j k .versions) ≡ mostVersions
-unfolding rolledBack
-rolled-places stored j k h = go (keepsOlder stored (k .kept) j)
-  where
-    go : (t : Bool) → length (cond t (olderBy j k) k .versions) ≡ mostVersions
-    go true = simp (length-append, length-drop, length-replicate) (omega arith)
-    go false = h
+rolled-places stored j k h =
+    rolled-by (λ (c : Cabinet). length (c .versions) ≡ mostVersions) stored j k h (λ s. refl)
+    (λ s low. simp (length-append, length-drop, length-replicate) (omega arith))
 
 deed-places : (plan : Plan) (p : ℕ) (d : Deed) (k : Cabinet) → length (k .versions) ≡ mostVersions
     → length (deedOf plan p d k .versions) ≡ mostVersions

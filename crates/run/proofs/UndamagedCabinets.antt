@@ -5,16 +5,14 @@ use mathlib.Core.List.{List, _∷_}
 use mathlib.Core.Path.{_≡_, refl, sym, _∙_}
 use native.Mathlib.Omega.{arith}
 use native.Mathlib.Nat.{zero-add}
-use lib.Dec.{ltb}
-use lib.ListN.{length, getD, drop, length-take}
+use lib.ListN.{length, getD, drop, replicate, length-take}
 use lib.Seq.{getD-take, getD-drop}
 use borrow.Author.Tests.{lt-ltb}
 use Rattle.limits.specs.Limits.{mostVersions}
 use Rattle.run.specs.Names.{Cabinet, Deed, Entry, Plan}
-use Rattle.plan.proofs.RuleLaws.{both}
-use Rattle.cabinet.specs.Cabinets.{presentOf, added, taken, offered, restarted, keepsOlder, olderFrom, olderBy, rolledBack}
+use Rattle.cabinet.specs.Cabinets.{presentOf, added, taken, offered, restarted, olderFrom, olderBy, asBuilt, rolledBack}
 use Rattle.cabinet.specs.Entries.{factoryEntry, takes}
-use Rattle.cabinet.proofs.CabinetLaws.{older-below}
+use Rattle.cabinet.proofs.CabinetLaws.{rolled-by}
 use Rattle.cabinet.proofs.ListLaws.{getD-filled}
 use Rattle.types.specs.Parts.{storedIn, isForgetful}
 use Rattle.server.specs.Deeds.{deedOf}
@@ -68,13 +66,16 @@ module _ (steps : ℕ) where
   unfolding recordSound
   same-sound stored k k′ a b r = rw (a, b) r
 
+  -- the factory entry alone
+  factories : allFrom (versionSound steps 1) 0 (replicate mostVersions factoryEntry) ≡ true
+  factories = all-replicate (versionSound steps 1) 0 mostVersions factoryEntry (λ i. version-factory steps 1 i)
+
   restarted-sound : (stored forgetful : Bool) (k : Cabinet) → recordSound steps stored k ≡ true
       → recordSound steps stored (restarted stored forgetful k) ≡ true
   unfolding restarted
   restarted-sound true forgetful k r = same-sound true k _ refl refl r
   restarted-sound false forgetful k r =
-      record-made steps false (restarted false forgetful k) (kept-made false 1 (omega arith) (omega arith) refl)
-      (all-replicate (versionSound steps 1) 0 mostVersions factoryEntry (λ i. version-factory steps 1 i))
+      record-made steps false (restarted false forgetful k) (kept-made false 1 (omega arith) (omega arith) refl) factories
 
   older-sound : (j : ℕ) (v : List Entry) (kept : ℕ) → allFrom (versionSound steps kept) 0 v ≡ true
       → allFrom (versionSound steps (kept - j)) 0 (olderFrom j v) ≡ true
@@ -86,17 +87,12 @@ module _ (steps : ℕ) where
 
   rolled-sound : (stored : Bool) (j : ℕ) (k : Cabinet) → recordSound steps stored k ≡ true
       → recordSound steps stored (rolledBack stored j k) ≡ true
-  unfolding rolledBack
-  rolled-sound stored j k r = go _ refl
-    where
-      go : (t : Bool) → keepsOlder stored (k .kept) j ≡ t → recordSound steps stored (cond t (olderBy j k) k) ≡ true
-      go false e = r
-      go true e =
-          let low : j < k .kept = older-below stored (k .kept) j e in
-          let f = record-says steps stored k r in
-          let c = kept-says stored (k .kept) (f .0) in
-          let has : stored ≡ true = both stored (ltb j (k .kept)) e .0 in
-          record-made steps stored (olderBy j k) (kept-made stored (k .kept - j) (omega arith) (omega arith) (rw has)) (older-sound j (k .versions) (k .kept) (f .1))
+  rolled-sound stored j k r =
+      let f = record-says steps stored k r in
+      let c = kept-says stored (k .kept) (f .0) in
+      rolled-by (λ (y : Cabinet). recordSound steps stored y ≡ true) stored j k r
+      (λ s. record-made steps stored asBuilt (kept-made stored 1 (omega arith) (omega arith) (rw s)) factories)
+      (λ s low. record-made steps stored (olderBy j k) (kept-made stored (k .kept - j) (omega arith) (omega arith) (rw s)) (older-sound j (k .versions) (k .kept) (f .1)))
 
 -- an entry that is offered has to be sound
 abbrev pub DeedSound : ℕ → Deed → Type 0

@@ -9,7 +9,7 @@ use Rattle.limits.specs.Limits.{mostCabinets, mostClients, mostSlots, mostVersi
 use Rattle.run.specs.Names.{Asked, Held, Plan, Planned, Power, Run, Sight, Step}
 use Rattle.plan.specs.Rule.{inRange, chosen, planOf, forgetfulPlan}
 use Rattle.plan.proofs.RuledLaws.{accepted-ruled}
-use Rattle.cabinet.specs.Cabinets.{freshCabinet, keepsOlder}
+use Rattle.cabinet.specs.Cabinets.{freshCabinet, hasVersion}
 use Rattle.cabinet.specs.Entries.{factoryEntry}
 use Rattle.types.specs.Parts.{freshClient, emptySlot, sightOf, storedIn}
 use Rattle.admit.specs.Admit.{placed}
@@ -43,7 +43,7 @@ stops-keep plan steps p Power.Stale line = of-cabinet line tt
 rolls-keep : (plan : Plan) (steps p j : ℕ) (k : Sight) (others : ℕ) → p < plan .n → Keeps plan steps (rollsOf plan p j k others)
 unfolding rollsOf
 rolls-keep plan steps p j k others line =
-    either (Keeps plan steps) (keepsOlder (storedIn plan p) (k .kept) j) _ _
+    either (Keeps plan steps) (hasVersion (storedIn plan p) (k .present .stamp) (k .kept) j) _ _
     (either (Keeps plan steps) (k .marked || ltb others (plan .r)) _ _ (of-cabinet line tt) refused)
     refused
 

@@ -4,7 +4,7 @@ use super::Stepped;
 use super::gather;
 use super::guarded;
 use admit::admit;
-use cabinet::keeps_older;
+use cabinet::has_version;
 use client::Asking;
 use client::Hears;
 use client::Moved;
@@ -178,7 +178,9 @@ pub fn go(mut run: Run, s: Step, sound: bool) -> Stepped
             }
             Asked::RollsBack(p, j) => {
                 let k = run.cabinets[p as usize];
-                if keeps_older(p < plan.stores, k.kept, j) {
+                let v = k.versions;
+                let held = v[0];
+                if has_version(p < plan.stores, held.stamp, k.kept, j) {
                     let cabinets = run.cabinets;
                     if may_roll(k.marked, gather::others_marked(p, cabinets), plan.r) {
                         run.cabinets[p as usize] = k.rollback(p < plan.stores, j);

@@ -1,9 +1,9 @@
--- A cabinet stops, restarts or rolls back: clauses S9.2, S10.1, S11.4 and S12.9 to S12.11 of docs/SCOPE.md.
+-- A cabinet stops, restarts or rolls back: clauses S9.2, S10.1, S11.4, S11.7 and S12.9 to S12.11 of docs/SCOPE.md.
 use Prim.Native.Nat.{ℕ}
 use mathlib.Core.Bool.{Bool, true, false, cond, _||_}
 use lib.Dec.{ltb}
 use Rattle.server.specs.Names.{Cabinet, Change, Decision, Deed, Outcome, Plan, Power, Refusal, Sight}
-use Rattle.cabinet.specs.Cabinets.{offered, stopped, restarted, keepsOlder, rolledBack}
+use Rattle.cabinet.specs.Cabinets.{offered, stopped, restarted, hasVersion, rolledBack}
 use Rattle.types.specs.Parts.{storedIn, isForgetful}
 
 -- S12.9: down
@@ -18,14 +18,14 @@ stopsWhen Power.Down p = Decision.No Refusal.IsDown
 stopsWhen Power.Up p = Decision.Yes Outcome.Stopped (Change.OfCabinet p Deed.GoDown)
 stopsWhen Power.Stale p = Decision.Yes Outcome.Stopped (Change.OfCabinet p Deed.GoDown)
 
--- S11.4: it comes back older, S12.10: if it keeps a version so old, S12.11: and is no cabinet too many; S3.8: r alone limits
+-- S11.4, S11.7: it comes back older, S12.10: if there is something to go back to, S12.11: and it is no cabinet too many; S3.8: r alone limits
 unfoldable pub rollsOf : Plan → ℕ → ℕ → Sight → ℕ → Decision
 rollsOf plan p j k others =
-    cond (keepsOlder (storedIn plan p) (k .kept) j)
+    cond (hasVersion (storedIn plan p) (k .present .stamp) (k .kept) j)
     (cond (k .marked || ltb others (plan .r)) (Decision.Yes Outcome.RolledBack (Change.OfCabinet p (Deed.GoBack j))) (Decision.No Refusal.TooMany))
     (Decision.No Refusal.NoVersion)
 
--- S7.5, S9.2, S10.1, S11.4: what a deed makes of the record at place p
+-- S7.5, S9.2, S10.1, S11.4, S11.7: what a deed makes of the record at place p
 unfoldable pub deedOf : Plan → ℕ → Deed → Cabinet → Cabinet
 deedOf plan p (Deed.Weigh e) k = offered (storedIn plan p) e k
 deedOf plan p Deed.GoDown k = stopped k

@@ -1,7 +1,7 @@
 // Whole step rows, straight from a part of the input. One function owns the run and changes it in place: to hand it on would copy its five
 // kilobytes at each row. A reached run is undamaged, so that no step is checked again.
 use admit::admit;
-use cabinet::keeps_older;
+use cabinet::has_version;
 use client::Asking;
 use client::Hears;
 use client::Moved;
@@ -230,7 +230,9 @@ pub fn steps(s: &[u8], out: &mut [u8], at: usize, row: u64, mut run: Run) -> Wen
             }
             Asked::RollsBack(p, j) => {
                 let k = run.cabinets[p as usize];
-                if keeps_older(p < plan.stores, k.kept, j) {
+                let v = k.versions;
+                let held = v[0];
+                if has_version(p < plan.stores, held.stamp, k.kept, j) {
                     let cabinets = run.cabinets;
                     if may_roll(k.marked, others_marked(p, cabinets), plan.r) {
                         run.cabinets[p as usize] = k.rollback(p < plan.stores, j);

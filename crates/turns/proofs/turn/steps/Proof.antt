@@ -251,22 +251,23 @@ steps-spec =
     (λ c. search needs)
     (λ c. search needs)
     (λ c. roll-at (c .before))
+    (λ c. search needs)
     (λ c κs. search needs)
     (λ c κs. search needs)
     (λ c κs. search needs)
     (λ c κs. search needs)
     (λ c. search needs)
     (λ c. search needs)
-    (λ c. roll-at (c .before .before .before .before .before .before .before .before .before .before .before))
-    (λ c. omega (arith, most (c .before .before .before .before .before .before .before .before .before .before .before .before .before)))
+    (λ c. roll-at (c .before .before .before .before .before .before .before .before .before .before .before .before .before))
+    (λ c. omega (arith, most (c .before .before .before .before .before .before .before .before .before .before .before .before .before .before .before)))
+    (λ c κs. has-room (c .before .before .before .before .before .before .before .before .before .before .before .before .before .before .before .before))
+    (λ c. shorter (c .before .before .before .before .before .before .before .before .before .before .before .before .before .before .before .before .before .before .before))
+    loop-again-22
     (λ c κs. has-room (c .before .before .before .before .before .before .before .before .before .before .before .before .before .before))
     (λ c. shorter (c .before .before .before .before .before .before .before .before .before .before .before .before .before .before .before .before .before))
-    loop-again-22
-    (λ c κs. has-room (c .before .before .before .before .before .before .before .before .before .before .before .before))
-    (λ c. shorter (c .before .before .before .before .before .before .before .before .before .before .before .before .before .before .before))
     loop-again-23
-    (λ c κs. has-room (c .before .before .before .before .before .before .before .before))
-    (λ c. shorter (c .before .before .before .before .before .before .before .before .before .before .before))
+    (λ c κs. has-room (c .before .before .before .before .before .before .before .before .before .before))
+    (λ c. shorter (c .before .before .before .before .before .before .before .before .before .before .before .before .before))
     loop-again-24
     same-length
     returns)

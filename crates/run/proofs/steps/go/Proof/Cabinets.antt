@@ -61,26 +61,26 @@ loop-again-20 c =
 pub loop-again-21 : tie.Need-loop-again-21 Inv-loop μ-loop
 loop-again-21 c =
     let r = c .before .before .before in
-    let a = r .before .before .before .before .before .before .before .before in
+    let a = r .before .before .before .before .before .before .before .before .before .before in
     let h = a .before .before in
     end h
     (rolls-to (here h) (a .p3 .given .1)
-    (sym (r .before .before .before .before .keeps-older .ensures) ∙ r .before .before .before .if4 .taken)
+    (sym (r .before .before .before .before .has-version .ensures) ∙ r .before .before .before .if4 .taken)
     (r .before .others-marked .ensures) (sym (r .may-roll .ensures) ∙ c .before .before .if5 .taken) (c .rollback .ensures))
 
 -- a rollback with too many others marked
 pub loop-again-22 : tie.Need-loop-again-22 Inv-loop μ-loop
 loop-again-22 c =
-    let a = c .before .before .before .before .before .before .before .before .before in
+    let a = c .before .before .before .before .before .before .before .before .before .before .before in
     let h = a .before .before in
     end h
     (rolls-not (here h) (a .p3 .given .1)
-    (sym (c .before .before .before .before .before .keeps-older .ensures) ∙ c .before .before .before .before .if4 .taken)
+    (sym (c .before .before .before .before .before .has-version .ensures) ∙ c .before .before .before .before .if4 .taken)
     (c .before .before .others-marked .ensures) (sym (c .before .may-roll .ensures) ∙ c .if5 .left))
 
 -- a rollback to a version that is not kept
 pub loop-again-23 : tie.Need-loop-again-23 Inv-loop μ-loop
 loop-again-23 c =
-    let a = c .before .before .before .before .before in
+    let a = c .before .before .before .before .before .before .before in
     let h = a .before .before in
-    end h (rolls-nowhere (here h) (a .p3 .given .1) (sym (c .before .keeps-older .ensures) ∙ c .if4 .left))
+    end h (rolls-nowhere (here h) (a .p3 .given .1) (sym (c .before .has-version .ensures) ∙ c .if4 .left))

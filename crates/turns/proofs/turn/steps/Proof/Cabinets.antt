@@ -82,12 +82,12 @@ loop-again-21 c =
 pub loop-again-22 : tie.Need-loop-again-22 Inv-loop2 μ-loop2 Inv-loop μ-loop
 loop-again-22 c =
     let r = c .before .before .before .before .before .before .before in
-    let a = r .before .before .before .before .before .before .before .before in
+    let a = r .before .before .before .before .before .before .before .before .before .before in
     let h = a .before .before in
     let w = c .before .before .accept6 .ensures in
     next h _ _ _
     (rolls-to (here h) (a .p3 .given .1)
-    (sym (r .before .before .before .before .keeps-older .ensures) ∙ r .before .before .before .if7 .taken)
+    (sym (r .before .before .before .before .has-version .ensures) ∙ r .before .before .before .if7 .taken)
     (r .before .others-marked .ensures) (sym (r .may-roll .ensures) ∙ c .before .before .before .before .before .before .if8 .taken)
     (c .before .before .before .before .rollback .ensures))
     (w .0) (w .1)
@@ -96,22 +96,22 @@ loop-again-22 c =
 pub loop-again-23 : tie.Need-loop-again-23 Inv-loop2 μ-loop2 Inv-loop μ-loop
 loop-again-23 c =
     let r = c .before .before .before .before .before in
-    let a = r .before .before .before .before .before .before .before .before in
+    let a = r .before .before .before .before .before .before .before .before .before .before in
     let h = a .before .before in
     let w = c .before .before .refuse9 .ensures in
     next h _ _ _
     (rolls-not (here h) (a .p3 .given .1)
-    (sym (r .before .before .before .before .keeps-older .ensures) ∙ r .before .before .before .if7 .taken)
+    (sym (r .before .before .before .before .has-version .ensures) ∙ r .before .before .before .if7 .taken)
     (r .before .others-marked .ensures) (sym (r .may-roll .ensures) ∙ c .before .before .before .before .if8 .left))
     (w .0) (w .1)
 
 -- a rollback to a version that is not kept
 pub loop-again-24 : tie.Need-loop-again-24 Inv-loop2 μ-loop2 Inv-loop μ-loop
 loop-again-24 c =
-    let a = c .before .before .before .before .before .before .before .before .before in
+    let a = c .before .before .before .before .before .before .before .before .before .before .before in
     let h = a .before .before in
     let w = c .before .before .refuse10 .ensures in
     next h _ _ _
     (rolls-nowhere (here h) (a .p3 .given .1)
-    (sym (c .before .before .before .before .before .keeps-older .ensures) ∙ c .before .before .before .before .if7 .left))
+    (sym (c .before .before .before .before .before .has-version .ensures) ∙ c .before .before .before .before .if7 .left))
     (w .0) (w .1)
