@@ -4,6 +4,7 @@ from pairs import Entry
 
 FACTORY = Entry(0, 0, 'unknown')
 KEPT = 8  # versions in a store, the present one included
+TO_FACTORY = 8  # of a rollback: to the factory entry instead of so many versions
 
 
 class Cabinet:
@@ -36,10 +37,12 @@ class Cabinet:
             self.versions = [FACTORY]
             self.stale = self.forgetful
 
-    def older(self):
-        """How many older versions it can be rolled back to."""
-        return len(self.versions) - 1 if self.store else 0
+    def can_go_back(self, places):
+        """To so many versions older, or to the factory entry, which needs no version kept."""
+        if places == TO_FACTORY:
+            return self.store and self.held[:2] != FACTORY[:2]
+        return self.store and 1 <= places < len(self.versions)
 
     def roll_back(self, places):
-        del self.versions[:places]
+        self.versions = [FACTORY] if places == TO_FACTORY else self.versions[places:]
         self.up = self.marked = True

@@ -23,7 +23,7 @@ REASONS = {
     '7': ('send', lambda run, step: not run.free),
     '8': ('deliver lose', lambda run, step: step[1] not in run.air),
     '9': ('stop', lambda run, step: not cabinet(run, step).up),
-    '10': ('rollback', lambda run, step: cabinet(run, step).older() < int(step[2])),
+    '10': ('rollback', lambda run, step: not cabinet(run, step).can_go_back(int(step[2]))),
     '11': ('rollback', others_marked),
 }
 

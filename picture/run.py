@@ -158,8 +158,8 @@ class Run:
 
     def rolled_back(self, row):
         cabinet, places = self.cabinets[int(row.step[1])], int(row.step[2])
-        if not 1 <= places <= cabinet.older():
-            raise Disagrees(f'the cabinet has {cabinet.older()} older versions')
+        if not cabinet.can_go_back(places):
+            raise Disagrees('the cabinet has nothing so old')
         cabinet.roll_back(places)
         if self.marked() > self.plan.r:
             raise Disagrees(f'more than {self.plan.r} cabinets are rolled back')

@@ -7,6 +7,7 @@ import re
 from rows import shown
 
 MOST_BYTES, MOST_DIGITS = 64, 7
+TO_FACTORY = 8  # of a rollback: to the factory entry instead of so many versions
 HEADER = b'kind,a,b,c,d'
 FIELDS = {b'plan': ['n', 'k', 'r', 'b'], b'write': ['client', 'reading'], b'read': ['client'],
           b'send': ['client', 'cabinet'], b'deliver': ['slot'], b'lose': ['slot'], b'stop': ['cabinet'],
@@ -124,7 +125,7 @@ def plan_range(name, fields):
 
 
 def of_step(kind, fields, cabinets):
-    ranges = {'client': (1, 8), 'cabinet': (1, cabinets), 'slot': (1, 64), 'number of versions back': (1, 7)}
+    ranges = {'client': (1, 8), 'cabinet': (1, cabinets), 'slot': (1, 64), 'number of versions back': (1, TO_FACTORY, f'{TO_FACTORY - 1}, or {TO_FACTORY} for the factory entry')}
     for name, field in zip(FIELDS[kind], fields):
         wrong = of_number(name, field, *ranges[name])
         if wrong:

@@ -70,6 +70,8 @@ class Story:
     def no_version(self, cabinet, back, *_):
         if cabinet > plans.stores(self.plan, self.profile):
             return f'cabinet {cabinet} has no store: {plans.of_stores(self.plan, self.profile)}'
+        if back == reasons.TO_FACTORY:
+            return f'cabinet {cabinet} holds the factory entry already'
         fewer = 'no older version' if back == 1 else f'fewer than {back} older versions'
         return f'cabinet {cabinet} keeps {fewer}'
 
@@ -185,7 +187,10 @@ class Story:
         cabinet = int(fields[1])
         self.down.pop(cabinet, None)
         self.rolled.setdefault(cabinet, line)
-        return f'cabinet {cabinet} is up, with what it held {reasons.counted(int(fields[2]), "version")} earlier'
+        back = int(fields[2])
+        if back == reasons.TO_FACTORY:
+            return f'cabinet {cabinet} is up, with the factory entry; the versions that it kept are gone'
+        return f'cabinet {cabinet} is up, with what it held {reasons.counted(back, "version")} earlier'
 
 
 def int_or_text(field):

@@ -75,7 +75,7 @@ class Counted:
         self.down.discard(place)
         if outcome == 'rolled back':
             self.marked.add(place)
-            del versions[len(versions) - int(step[2]):]
+            versions[:] = [FACTORY] if step[2] == '8' else versions[:len(versions) - int(step[2])]
             return self.label(number, lane, f'rolled back to {words(versions[-1])}')
         if int(place) > self.stores:
             versions[:] = [FACTORY]

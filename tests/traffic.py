@@ -175,9 +175,9 @@ class Walk:
         if guess.forgetful and self.chance(0.9):
             return None
         cabinet = self.pick(self.weak if self.chance(0.75) else guess.cabinets)
-        back = self.pick([1, 1, 1, 1, 2, 2, 3, 7, self.below(7) + 1])
-        if back == 7 and self.chance(0.5):  # to the oldest version and past it
-            self.ahead.append(f'rollback,{cabinet},1,,')
+        back = self.pick([1, 1, 1, 1, 2, 2, 3, 7, 8, self.below(8) + 1])  # 8 is the factory entry
+        if back >= 7 and self.chance(0.5):  # to the oldest version or the factory entry, and past it
+            self.ahead.append(f'rollback,{cabinet},{self.pick([1, 8])},,')
         if cabinet in guess.down and self.chance(0.9):
             # Up or still down, who knows: the row after it makes it sure.
             self.ahead.append(self.pick([f'restart,{cabinet},,,', f'stop,{cabinet},,,']))
@@ -213,7 +213,7 @@ class Walk:
             f'write,{client},open,241,', f'read,{9 + odd},,,', f'send,{9 + odd},1,,', f'send,{client},{cabinet},,',
             f'send,{client},0,,', f'deliver,{65 + odd},,,', 'deliver,0,,,', f'lose,{65 + odd},,,', 'lose,0,,,',
             f'stop,{cabinet},,,', 'stop,0,,,', f'restart,{cabinet},,,', 'restart,0,,,', f'rollback,{cabinet},1,,',
-            'rollback,0,1,,', f'rollback,1,{8 + odd},,', 'rollback,1,0,,', f'leave,{9 + odd},,,', 'leave,0,,,'])
+            'rollback,0,1,,', f'rollback,1,{9 + odd},,', 'rollback,1,0,,', f'leave,{9 + odd},,,', 'leave,0,,,'])
 
     def on_free_slot(self):
         slot = self.below(SLOTS)

@@ -5,6 +5,9 @@ use crate::refusal::Refusal;
 
 const MOST_VERSIONS: usize = 8;
 
+/// Of a rollback: to the factory entry instead of so many versions.
+pub const TO_FACTORY: usize = 8;
+
 #[derive(Clone, Copy, Debug, PartialEq, Eq)]
 enum Power {
     Down,
@@ -79,14 +82,26 @@ impl Cabinet {
         self.power = if forgetful { Power::Stale } else { Power::Up };
     }
 
+    /// The factory entry is never out of reach, however many entries were
+    /// taken since; a cabinet that holds it has nothing older.
     pub fn can_go_back(&self, back: usize) -> bool {
-        self.has_store && back < self.kept
+        self.has_store
+            && if back == TO_FACTORY {
+                self.versions[0].stamp != Entry::FACTORY.stamp
+            } else {
+                back < self.kept
+            }
     }
 
     /// Only where `can_go_back` holds.
     pub fn roll_back(&mut self, back: usize) {
-        self.versions.copy_within(back..self.kept, 0);
-        self.kept -= back;
+        if back == TO_FACTORY {
+            self.versions[0] = Entry::FACTORY;
+            self.kept = 1;
+        } else {
+            self.versions.copy_within(back..self.kept, 0);
+            self.kept -= back;
+        }
         self.power = Power::Up;
         self.rolled_back = true;
     }
@@ -119,10 +134,27 @@ mod tests {
         for counter in 1..=20 {
             cabinet.offer(entry(counter, 1));
         }
-        assert!(!cabinet.can_go_back(8));
         cabinet.roll_back(7);
         assert_eq!(cabinet.ask(), Some(entry(13, 1)));
         assert!(!cabinet.can_go_back(1));
+        assert!(cabinet.can_go_back(TO_FACTORY));
+    }
+
+    #[test]
+    fn the_factory_entry_needs_no_version_kept() {
+        let mut cabinet = Cabinet::fresh(true);
+        assert!(!cabinet.can_go_back(TO_FACTORY));
+        for taken in [1, 20] {
+            for counter in 1..=taken {
+                cabinet.offer(entry(counter, 1));
+            }
+            assert!(cabinet.can_go_back(TO_FACTORY));
+            cabinet.roll_back(TO_FACTORY);
+            assert_eq!(cabinet.ask(), Some(Entry::FACTORY));
+            assert!(cabinet.is_rolled_back());
+            assert!(!cabinet.can_go_back(1));
+            assert!(!cabinet.can_go_back(TO_FACTORY));
+        }
     }
 
     #[test]

@@ -1,6 +1,6 @@
 //! A run: clients, cabinets and slots, changed in place by one step at a time.
 
-use crate::cabinet::Cabinet;
+use crate::cabinet::{Cabinet, TO_FACTORY};
 use crate::client::{Client, Heeded, Kind, Part, Reply};
 use crate::entry::{Entry, Reading};
 use crate::plan::{Plan, Profile, MOST_CABINETS};
@@ -9,7 +9,6 @@ use crate::slots::{Body, Message, Slots, SLOTS};
 
 const CLIENTS: u32 = 8;
 const MOST_STEPS: u32 = 1_000_000;
-const MOST_PLACES_BACK: u32 = 7;
 
 /// A step as a row names it: the numbers are not yet known to be in range.
 #[derive(Clone, Copy, Debug, PartialEq, Eq)]
@@ -196,7 +195,7 @@ impl Run {
 
     fn roll_back(&mut self, cabinet: u32, back: u32) -> Answer {
         let cabinet = place(cabinet, self.plan.cabinets)?;
-        let back = place(back, MOST_PLACES_BACK)? + 1;
+        let back = place(back, TO_FACTORY as u32)? + 1;
         self.steps_are_left()?;
         if !self.cabinets[cabinet].can_go_back(back) {
             return Err(Refusal::NoOlderVersion);

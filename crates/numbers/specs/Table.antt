@@ -97,12 +97,12 @@ abbrev pub alreadyDown : Run → ℕ → Check
 alreadyDown run k = check (isDown (cabinetAt run (k - 1) .power)) 9
 
 -- S12.10: the factory entry is held already, or nothing so old is kept
-abbrev pub nothingBack : Cabinet → ℕ → Bool
-nothingBack k j = cond (eqb j toFactory) (isFactoryStamp (presentOf k .stamp)) (ltb (k .kept - 1) j)
+abbrev pub lacksOlder : Cabinet → ℕ → Bool
+lacksOlder k j = cond (eqb j toFactory) (isFactoryStamp (presentOf k .stamp)) (ltb (k .kept - 1) j)
 
 -- S12.10: no store, or nothing to go back to
 abbrev pub noVersion : Run → ℕ → ℕ → Check
-noVersion run k j = check (not (storedIn (run .plan) (k - 1)) || nothingBack (cabinetAt run (k - 1)) j) 10
+noVersion run k j = check (not (storedIn (run .plan) (k - 1)) || lacksOlder (cabinetAt run (k - 1)) j) 10
 
 -- S12.11: one cabinet too many
 abbrev pub tooMany : Run → ℕ → Check

@@ -98,11 +98,12 @@ fit-restarted Profile.Store false y q =
 -- marked for good, where there is a store; without one nothing happens
 pub fit-rolled : (f : Profile) (stored : Bool) (j : ℕ) (y : Cabinet) → (f ≡ Profile.Forgetful → stored ≡ false)
     → Fit f stored (λ d. ⊥) y (rolledBack stored j y)
-fit-rolled Profile.Forgetful stored j y q =
-    rolled-by (Fit Profile.Forgetful stored (λ d. ⊥) y) stored j y (fit-same Profile.Forgetful stored (λ d. ⊥) y)
-    (λ s. absurd (true≢false (sym s ∙ q refl))) (λ s low. absurd (true≢false (sym s ∙ q refl)))
-fit-rolled Profile.Store stored j y q =
-    rolled-by (Fit Profile.Store stored (λ d. ⊥) y) stored j y (fit-same Profile.Store stored (λ d. ⊥) y)
+fit-rolled Profile.Forgetful true j y q = absurd (true≢false (q refl))
+fit-rolled f false j y q =
+    rolled-by (Fit f false (λ d. ⊥) y) false j y (fit-same f false (λ d. ⊥) y) (λ s. absurd (true≢false (sym s)))
+    (λ s low. absurd (true≢false (sym s)))
+fit-rolled Profile.Store true j y q =
+    rolled-by (Fit Profile.Store true (λ d. ⊥) y) true j y (fit-same Profile.Store true (λ d. ⊥) y)
     (λ s. record { up = inr refl; lapsed-on = λ h. refl; weak-on = λ h. refl; from = λ i. inr (inr (getD-filled [] mostVersions i factoryEntry)) })
     (λ s low.
     record {
