@@ -125,7 +125,8 @@ def plan_range(name, fields):
 
 
 def of_step(kind, fields, cabinets):
-    ranges = {'client': (1, 8), 'cabinet': (1, cabinets), 'slot': (1, 64), 'number of versions back': (1, TO_FACTORY, f'{TO_FACTORY - 1}, or {TO_FACTORY} for the factory entry')}
+    back = 1, TO_FACTORY, f'{TO_FACTORY - 1}, or {TO_FACTORY} for the factory entry'
+    ranges = {'client': (1, 8), 'cabinet': (1, cabinets), 'slot': (1, 64), 'number of versions back': back}
     for name, field in zip(FIELDS[kind], fields):
         wrong = of_number(name, field, *ranges[name])
         if wrong:

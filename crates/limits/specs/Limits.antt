@@ -21,7 +21,7 @@ mostSlots = 64
 abbrev pub mostVersions : ℕ
 mostVersions = 8
 
--- S11.7: the j that stands for the factory entry, one more than a version that is kept can be older; S12.2: none is greater
+-- S11.7: the j that stands for the factory entry, since no store keeps so many older versions; S12.2: the greatest j
 abbrev pub toFactory : ℕ
 toFactory = mostVersions
 

@@ -12,7 +12,7 @@ pub const MOST_CLIENTS: usize = 8;
 pub const MOST_SLOTS: usize = 64;
 // What a store keeps, the present version included.
 pub const MOST_VERSIONS: usize = 8;
-// Of a rollback, the number that stands for the factory entry instead of so many versions: one more than a store keeps behind the present one.
+// The j of a rollback that stands for the factory entry, and the greatest j: no store keeps so many versions behind the present one.
 pub const TO_FACTORY: usize = MOST_VERSIONS;
 // The accepted steps of a run. No counter and no operation number exceeds them, so that none wraps.
 pub const MOST_STEPS: u32 = 1_000_000;

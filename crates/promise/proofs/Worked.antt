@@ -2,6 +2,7 @@
 -- docs/SCOPE.md (S17.12) answers as printed there. By computation. Assumes nothing.
 use Prim.Native.Nat.{ℕ, zero, suc}
 use mathlib.Core.Path.{_≡_, refl}
+use mathlib.Core.Bool.{true}
 use mathlib.Core.List.{List, [], _∷_}
 use Rattle.promise.specs.Names.{Answer, Entry, Outcome, Planned, Reading, Refusal, Run, Step}
 use Rattle.limits.specs.Limits.{toFactory}
