@@ -7,7 +7,7 @@ use lib.Dec.{leb, ltb}
 use Rattle.limits.specs.Limits.{mostCabinets, mostClients, mostSlots}
 use Rattle.plan.proofs.RuleLaws.{both}
 use Rattle.promise.specs.Names.{Asked, Body, Change, Decision, Deed, Held, Message, Outcome, Power, Refusal, Run, Standing, Step, Work}
-use Rattle.cabinet.specs.Cabinets.{presentOf, hasVersion}
+use Rattle.cabinet.specs.Cabinets.{goesBack}
 use Rattle.cabinet.specs.Entries.{factoryEntry}
 use Rattle.heard.specs.Heard.{noneHeard, hasOf}
 use Rattle.types.specs.Parts.{sightOf, storedIn}
@@ -179,7 +179,7 @@ module _ (run : Run) (G : Good run) (s : Step) where
   sim-rolls : (q j : ℕ) → Moves run s (decideOf run (Asked.RollsBack q j))
   unfolding decideOf rollsOf
   sim-rolls q j =
-      go (hasVersion (storedIn (run .plan) q) (presentOf (cabinetAt run q) .stamp) (cabinetAt run q .kept) j)
+      go (goesBack (storedIn (run .plan) q) j (cabinetAt run q))
       (cabinetAt run q .marked || ltb (othersFrom q 0 (run .cabinets)) (run .plan .r))
     where
       go : (t u : Bool)

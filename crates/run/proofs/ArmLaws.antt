@@ -10,7 +10,7 @@ use lib.Dec.{ltb}
 use lib.ListN.{getD, set}
 use Rattle.limits.specs.Limits.{mostCabinets, mostClients, mostSlots}
 use Rattle.run.specs.Names.{Answer, Asked, Asking, Back, Body, Cabinet, Change, Client, Decision, Deed, Ending, Entry, Hears, Held, Message, Moved, Outcome, Power, Refusal, Run, Sight, Slot, Step, Stepped, Work}
-use Rattle.cabinet.specs.Cabinets.{offered, stopped, restarted, presentOf, hasVersion, rolledBack}
+use Rattle.cabinet.specs.Cabinets.{offered, stopped, restarted, goesBack, rolledBack}
 use Rattle.types.specs.Parts.{emptySlot, freshClient, noCabinet, sightOf, storedIn, isForgetful}
 use Rattle.client.specs.Begin.{beginsOf, sendsOf, leavesOf}
 use Rattle.client.specs.Hear.{hearsOf}
@@ -242,12 +242,12 @@ module _ {run : Run} {s : Step} (h : Admitted run s) where
   restarts-to e g q = rw (q, g) (arm h e refl)
 
   module _ {p j : ℕ} (e : h .asked ≡ Asked.RollsBack p j) where
-    pub rolls-nowhere : hasVersion (storedIn (run .plan) p) (presentOf (getD (run .cabinets) p noCabinet) .stamp) (getD (run .cabinets) p noCabinet .kept) j ≡ false
+    pub rolls-nowhere : goesBack (storedIn (run .plan) p) j (getD (run .cabinets) p noCabinet) ≡ false
         → stepOf run s ≡ refused run Refusal.NoVersion
     unfolding decideOf cabinetAt rollsOf
     rolls-nowhere g = let z : decideOf run (Asked.RollsBack p j) ≡ Decision.No Refusal.NoVersion = rw g in arm h e z
 
-    module _ (g : hasVersion (storedIn (run .plan) p) (presentOf (getD (run .cabinets) p noCabinet) .stamp) (getD (run .cabinets) p noCabinet .kept) j ≡ true) {o : ℕ} (z : o ≡ othersFrom p 0 (run .cabinets)) where
+    module _ (g : goesBack (storedIn (run .plan) p) j (getD (run .cabinets) p noCabinet) ≡ true) {o : ℕ} (z : o ≡ othersFrom p 0 (run .cabinets)) where
       pub rolls-not : (getD (run .cabinets) p noCabinet .marked || ltb o (run .plan .r)) ≡ false
           → stepOf run s ≡ refused run Refusal.TooMany
       unfolding decideOf cabinetAt rollsOf

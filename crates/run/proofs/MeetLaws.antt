@@ -7,7 +7,7 @@ use lib.Dec.{leb, ltb}
 use lib.ListN.{getD}
 use Rattle.limits.specs.Limits.{mostCabinets, mostClients, mostSlots}
 use Rattle.run.specs.Names.{Asked, Body, Change, Client, Decision, Deed, Entry, Heard, Held, Message, Outcome, Plan, Power, Refusal, Run, Sight, Slot, Standing, Step, Told, Work}
-use Rattle.cabinet.specs.Cabinets.{presentOf, hasVersion}
+use Rattle.cabinet.specs.Cabinets.{goesBack}
 use Rattle.heard.specs.Heard.{countOf}
 use Rattle.types.specs.Parts.{emptySlot, storedIn, sightOf}
 use Rattle.client.specs.Begin.{standingOf, beginsBy, beginsOf, sendsBy, sendsOf, leavesBy, leavesOf}
@@ -125,7 +125,7 @@ Does run (Asked.Stops p) d = d ≡ Deed.GoDown
 Does run (Asked.Restarts p) d = d ≡ Deed.ComeUp
 Does run (Asked.RollsBack p j) d =
     (d ≡ Deed.GoBack j)
-    × (hasVersion (storedIn (run .plan) p) (presentOf (cabinetAt run p) .stamp) (cabinetAt run p .kept) j ≡ true)
+    × (goesBack (storedIn (run .plan) p) j (cabinetAt run p) ≡ true)
     × (cabinetAt run p .marked || ltb (othersFrom p 0 (run .cabinets)) (run .plan .r) ≡ true)
 
 module _ (run : Run) where
@@ -140,7 +140,7 @@ module _ (run : Run) where
   unfolding decideOf rollsOf
   rolls-at p j = go _ _ refl refl
     where
-      go : (s t : Bool) → hasVersion (storedIn (run .plan) p) (presentOf (cabinetAt run p) .stamp) (cabinetAt run p .kept) j ≡ s
+      go : (s t : Bool) → goesBack (storedIn (run .plan) p) j (cabinetAt run p) ≡ s
           → cabinetAt run p .marked || ltb (othersFrom p 0 (run .cabinets)) (run .plan .r) ≡ t
           → Meets (Does run (Asked.RollsBack p j)) (met mostClients p mostSlots)
           (cond s (cond t (Decision.Yes Outcome.RolledBack (Change.OfCabinet p (Deed.GoBack j))) (Decision.No Refusal.TooMany)) (Decision.No Refusal.NoVersion))

@@ -92,7 +92,8 @@ module _ (steps : ℕ) where
       let c = kept-says stored (k .kept) (f .0) in
       rolled-by (λ (y : Cabinet). recordSound steps stored y ≡ true) stored j k r
       (λ s. record-made steps stored asBuilt (kept-made stored 1 (omega arith) (omega arith) (rw s)) factories)
-      (λ s low. record-made steps stored (olderBy j k) (kept-made stored (k .kept - j) (omega arith) (omega arith) (rw s)) (older-sound j (k .versions) (k .kept) (f .1)))
+      (λ s low. record-made steps stored (olderBy j k) (kept-made stored (k .kept - j) (omega arith) (omega arith) (rw s))
+      (older-sound j (k .versions) (k .kept) (f .1)))
 
 -- an entry that is offered has to be sound
 abbrev pub DeedSound : ℕ → Deed → Type 0
