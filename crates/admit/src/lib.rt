@@ -1,4 +1,6 @@
 // Which steps are let in.
+#![tactic(auto)]
+
 mod admission;
 
 pub use admission::admit;

@@ -7,7 +7,7 @@ use run::Run;
 use text::Row;
 
 // Every row from `from` on is a step of the run, if it is planned.
-#[derive(Drop)]
+#[derive(Clone, Copy)]
 pub struct Begun {
     pub planned: bool,
     pub run: Run,

@@ -1,4 +1,6 @@
 // What the programs over lists share: the run that a list's head plans, its rows and the steps that they are, and sums by which two runs are compared.
+#![tactic(auto)]
+
 mod head;
 mod line;
 pub mod sums;

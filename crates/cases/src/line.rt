@@ -2,7 +2,7 @@
 ghost use Rattle.std.specs.Prelude.{◌≤◌, ◌<◌, length};
 
 // The row ends at `to`, without its LF and one CR before that.
-#[derive(Drop)]
+#[derive(Clone, Copy)]
 pub struct Line {
     pub to: usize,
     pub next: usize,

@@ -10,7 +10,7 @@ use heard::Heard;
 use types::{Body, Client, Held, Message, Refusal, Slot, Work};
 
 // What the checks 4, 5 and 6 ask of a client.
-#[derive(Drop)]
+#[derive(Clone, Copy)]
 pub enum Standing {
     Free,
     Away,
@@ -44,14 +44,14 @@ pub fn part(w: Work) -> u8
 }
 
 // A client's own step without the place that it changes: a refusal, or the client as it is afterwards.
-#[derive(Drop)]
+#[derive(Clone, Copy)]
 pub enum Moved {
     Not(Refusal),
     To(Client),
 }
 
 // A send without the slot that it takes: a refusal, or what that slot then has.
-#[derive(Drop)]
+#[derive(Clone, Copy)]
 pub enum Asking {
     Not(Refusal),
     Puts(Slot),

@@ -12,7 +12,7 @@ use plan::Plan;
 use types::{Body, Client, Ending, Message, Work};
 
 // What a reply says to the part that is open: the entry heard in a first part, or that the entry offered was taken or kept.
-#[derive(Drop)]
+#[derive(Clone, Copy)]
 pub enum Told {
     Nothing,
     OfWrite(Reading, Entry),
@@ -110,7 +110,7 @@ fn best_of(heard: u8, best: Entry, e: Entry) -> Entry
 }
 
 // What a reply does to its client, without the places that change: nothing, it is counted, or it ends the part.
-#[derive(Drop)]
+#[derive(Clone, Copy)]
 pub enum Hears {
     Nothing,
     Counts(Client),

@@ -7,7 +7,7 @@ use run::Run;
 use types::Step;
 
 // The first run steps on its own records, the second over the table. The sum is that of the second's own records, which no step may change.
-#[derive(Drop)]
+#[derive(Clone, Copy)]
 pub struct Both {
     pub first: Run,
     pub second: Run,
@@ -15,7 +15,7 @@ pub struct Both {
     pub own: u64,
 }
 
-#[derive(Drop)]
+#[derive(Clone, Copy)]
 pub struct Compared {
     pub number: u64,
     pub same: bool,

@@ -7,7 +7,7 @@ use super::both::Both;
 use cases::{line_from, step_of};
 
 // The first row that differs is counted from the plan, as in a transcript; 0: none does.
-#[derive(Drop)]
+#[derive(Clone, Copy)]
 pub struct Tally {
     pub begun: bool,
     pub accepted: u64,

@@ -1,5 +1,7 @@
 // Takes every list that its arguments name through both entrances, a run's own records and a lent table, and says whether they agree at each
 // step; then tables of a wrong length and damaged records.
+#![tactic(auto)]
+
 mod both;
 mod list;
 mod show;

@@ -1,4 +1,6 @@
 // The cabinet rule for the cabinets' firmware, which is written in C: an entry that is held and one that is offered, in two lent buffers.
+#![tactic(auto)]
+
 mod layout;
 mod xdr;
 

@@ -1,4 +1,6 @@
 // The damage check of a run's parts: its cabinets, its clients and its slots.
+#![tactic(auto)]
+
 mod cabinets;
 mod clients;
 mod entries;

@@ -1,5 +1,7 @@
 // The limits of a line, each with its reason. They have the width of an array's length, or of the number that is counted; `byte` has those that
 // a number in a step, a message or a record is held against.
+#![tactic(auto)]
+
 pub mod byte;
 
 // A line has at least its two end stations.

@@ -10,7 +10,7 @@ use limits::MOST_CABINETS;
 use lists::{Listed, MOST_LISTED, Whole};
 use types::Step;
 
-#[derive(Drop)]
+#[derive(Clone, Copy)]
 pub struct Taken {
     pub told: Told,
     pub desk: Desk,

@@ -1,5 +1,7 @@
 // Takes every list that its arguments name in pieces, singly, in one go by a run and in one go over a lent table, and says whether the three
 // agree after each piece; then the edges of both calls, and the example of docs/DESKS.md.
+#![tactic(auto)]
+
 mod calls;
 mod damage;
 mod edges;

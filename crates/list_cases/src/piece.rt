@@ -6,7 +6,7 @@ use cases::{line_from, step_of};
 use lists::MOST_LISTED;
 use types::Step;
 
-#[derive(Drop)]
+#[derive(Clone, Copy)]
 pub struct Piece {
     pub count: usize,
     pub next: usize,

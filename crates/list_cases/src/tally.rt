@@ -3,7 +3,7 @@ ghost use Rattle.std.specs.Prelude.{◌≡◌, ◌+◌, ◌≤◌};
 ghost use Rattle.cases.specs.Sizes.{most_list_bytes};
 
 // The first piece that differs is counted from 1; 0: none does.
-#[derive(Drop)]
+#[derive(Clone, Copy)]
 pub struct Tally {
     pub steps: usize,
     pub pieces: usize,

@@ -13,7 +13,7 @@ use run::Run;
 use types::Step;
 
 // The sum is that of the third run's own records, which no step may change.
-#[derive(Drop)]
+#[derive(Clone, Copy)]
 pub struct Three {
     pub first: Desk,
     pub second: Desk,

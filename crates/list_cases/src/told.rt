@@ -12,13 +12,13 @@ pub const PLACES: usize = 264;
 pub const MARK: u8 = 170;
 
 // A run, and records beside it, which only the lent call looks at.
-#[derive(Drop)]
+#[derive(Clone, Copy)]
 pub struct Desk {
     pub run: Run,
     pub table: [Cabinet; MOST_CABINETS],
 }
 
-#[derive(Drop)]
+#[derive(Clone, Copy)]
 pub struct Told {
     pub number: u64,
     pub answers: [u8; PLACES],

@@ -1,4 +1,6 @@
 // A list of steps in one go: the run after all of them, and the number of each answer in a lent table.
+#![tactic(auto)]
+
 mod each;
 
 ghost use Rattle.std.specs.Prelude.{◌≡◌};
@@ -12,13 +14,13 @@ use types::Step;
 pub const MOST_LISTED: usize = 256;
 
 // Whether the list was taken at all, which is 0 or 16: what each step was answered stands in the table.
-#[derive(Drop)]
+#[derive(Clone, Copy)]
 pub enum Whole {
     NoRoom,
     Taken,
 }
 
-#[derive(Drop)]
+#[derive(Clone, Copy)]
 pub struct Listed {
     pub whole: Whole,
     pub run: Run,

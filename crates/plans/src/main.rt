@@ -1,4 +1,6 @@
 // Prints the plans worth choosing for every number of cabinets, as a Markdown table. Every plan is an answer of the planning rule.
+#![tactic(auto)]
+
 ghost use Rattle.std.specs.Prelude.{◌≡◌};
 ghost use Rattle.plan.specs.Rule.{plan_of};
 ghost use Rattle.plans.specs.Worth.{affords as affords_of, worth as worth_of};

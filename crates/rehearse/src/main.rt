@@ -1,4 +1,6 @@
 // Rehearses the step list on standard input.
+#![tactic(auto)]
+
 use libc::STDIN_FILENO;
 
 fn main() {

@@ -1,4 +1,6 @@
 // A run of the register as one value: planning a fresh one, the damage check, and one step at a time.
+#![tactic(auto)]
+
 mod fresh;
 mod gather;
 mod guarded;
@@ -14,7 +16,7 @@ pub use steps::{go, take};
 use types::{Answer, Client, Slot};
 
 // S4.1, S20.1: clients, cabinets and slots count from 0 here; places past n hold fresh cabinets.
-#[derive(Drop)]
+#[derive(Clone, Copy)]
 pub struct Run {
     pub plan: Plan,
     pub steps: u32,
@@ -24,13 +26,13 @@ pub struct Run {
 }
 
 // A run holds arrays, so what comes back with it stands beside it.
-#[derive(Drop)]
+#[derive(Clone, Copy)]
 pub struct Started {
     pub planned: Planned,
     pub run: Run,
 }
 
-#[derive(Drop)]
+#[derive(Clone, Copy)]
 pub struct Stepped {
     pub answer: Answer,
     pub run: Run,

@@ -1,4 +1,6 @@
 // The cabinet's side of a step: a request reaches it, or it stops, restarts or rolls back. One cabinet and one message at a time.
+#![tactic(auto)]
+
 mod deed;
 mod request;
 

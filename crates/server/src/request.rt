@@ -6,7 +6,7 @@ use cabinet::{Entry, Power};
 use types::{Body, Held, Message, Sight, Slot};
 
 // What a request that reaches its cabinet comes to, without the slot: no answer, a reply's body, or an entry to weigh and acknowledge.
-#[derive(Drop)]
+#[derive(Clone, Copy)]
 pub enum Back {
     Silent,
     Says(Body),

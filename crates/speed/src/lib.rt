@@ -1,4 +1,6 @@
 // The step's speed, for a C program to measure: one list of steps over and over, singly with the damage check, in one go, and the check alone.
+#![tactic(auto)]
+
 use cabinet::Reading;
 use lists::MOST_LISTED;
 use types::Step;

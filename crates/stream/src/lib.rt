@@ -1,4 +1,6 @@
 // The rehearsal of what a descriptor gives, on standard output: read, feed, write, in parts, so that memory does not grow with the input.
+#![tactic(auto)]
+
 ghost use Rattle.std.specs.Prelude.{◌≡◌, ◌+◌, ◌≤◌, ◌<◌, ◌^◌, length};
 ghost use Rattle.stream.specs.Buffers.{part_room, out_room};
 ghost use Rattle.transcript.specs.Machine.{Whole, mach_of};
@@ -16,7 +18,7 @@ pub const OUT_ROOM: usize = ROOM * (PART_ROOM + 1);
 pub const MOST_READS: u64 = 1_000_000_000_000;
 
 // What is kept, whether there is more to read, and whether the writes went through.
-#[derive(Drop)]
+#[derive(Clone, Copy)]
 pub struct Turn {
     pub more: bool,
     pub sound: bool,

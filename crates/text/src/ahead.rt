@@ -13,7 +13,7 @@ use types::Step;
 
 // The step, and how many bytes its row has with the LF. `Unclear` says nothing: the row may end in CRLF, be a write, be of another form, or
 // not end here.
-#[derive(Drop)]
+#[derive(Clone, Copy)]
 pub enum Ahead {
     Unclear,
     Whole(Step, usize),

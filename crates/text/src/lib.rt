@@ -1,4 +1,6 @@
 // Rows of a step list: what one line says, whether it is the header row, and where a row ends.
+#![tactic(auto)]
+
 mod ahead;
 mod bytes;
 mod field;

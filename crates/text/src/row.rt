@@ -10,7 +10,7 @@ use super::{bytes, field, reading, word};
 use types::Step;
 
 // A plan has its n, k, r and b. `Other` is a line of any other form; it is answered 2.
-#[derive(Drop)]
+#[derive(Clone, Copy)]
 pub enum Row {
     Other,
     Plan(u64, u64, u64, u64),

@@ -8,7 +8,7 @@ use super::row::{Row, parse};
 use types::Step;
 
 // The step, `Other` where the row is none, and the place behind the row's LF; the place where it begins, if no LF comes.
-#[derive(Drop)]
+#[derive(Clone, Copy)]
 pub struct Found {
     pub step: Step,
     pub end: usize,

@@ -14,7 +14,7 @@ use text::trim;
 use turns::steps;
 
 // How many bytes were used, what is kept, and the run.
-#[derive(Drop)]
+#[derive(Clone, Copy)]
 struct Led {
     used: usize,
     kept: Kept,

@@ -1,4 +1,6 @@
 // The rehearsal of a step list: a machine that is fed the bytes of an input in parts of any size, and puts what it says into a lent buffer.
+#![tactic(auto)]
+
 mod answers;
 mod bytes;
 mod ends;
@@ -8,7 +10,7 @@ pub use bytes::{feed, fresh};
 pub use ends::finish;
 use run::Run;
 
-#[derive(Drop)]
+#[derive(Clone, Copy)]
 pub enum Phase {
     Header,
     Planning,
@@ -18,7 +20,7 @@ pub enum Phase {
 
 // What is kept from part to part: how many bytes the row has so far (MOST_LINE + 1: too many), where the next answer goes, the phase, and the
 // next row's number.
-#[derive(Drop)]
+#[derive(Clone, Copy)]
 pub struct Kept {
     pub len: usize,
     pub at: usize,
@@ -27,7 +29,7 @@ pub struct Kept {
 }
 
 // The run stands beside what else is kept: it is five kilobytes, and only a row's end hands it on.
-#[derive(Drop)]
+#[derive(Clone, Copy)]
 pub struct Fed {
     pub kept: Kept,
     pub run: Run,

@@ -21,7 +21,7 @@ use text::find;
 use types::{Answer, Asked, Body, Held, Outcome, Refusal, Slot};
 
 // How many bytes the rows had, where the next answer goes, the next row's number, and the run.
-#[derive(Drop)]
+#[derive(Clone, Copy)]
 pub struct Went {
     pub used: usize,
     pub at: usize,

@@ -2,7 +2,7 @@
 use cabinet::{Entry, Power};
 
 // S12.1 to S12.11, in the order of the numbers.
-#[derive(Drop)]
+#[derive(Clone, Copy)]
 pub enum Refusal {
     Damaged,
     Range,
@@ -18,7 +18,7 @@ pub enum Refusal {
 }
 
 // S8.5, S8.6, S8.7: how a part ended.
-#[derive(Drop)]
+#[derive(Clone, Copy)]
 pub enum Ending {
     Chosen,
     Found,
@@ -27,7 +27,7 @@ pub enum Ending {
 }
 
 // S5.2: what an accepted step came to. With the slot, counted from 1, of a send, a deliver or a lose, and the entry of a part that ended.
-#[derive(Drop)]
+#[derive(Clone, Copy)]
 pub enum Outcome {
     Begun,
     Sent(u8),
@@ -44,14 +44,14 @@ pub enum Outcome {
 }
 
 // S5.2: refused or accepted.
-#[derive(Drop)]
+#[derive(Clone, Copy)]
 pub enum Answer {
     Refused(Refusal),
     Accepted(Outcome),
 }
 
 // What a step looks at of a cabinet: all but its older versions.
-#[derive(Drop)]
+#[derive(Clone, Copy)]
 pub struct Sight {
     pub present: Entry,
     pub kept: u8,

@@ -1,4 +1,6 @@
 // The parts of a run: messages and their slots, clients, steps, and what a step is answered. Types alone; what is done with them stands above.
+#![tactic(auto)]
+
 mod answer;
 mod client;
 mod message;
