@@ -1,0 +1,18 @@
+-- `first_read` meets its contract. Assumes nothing.
+use mathlib.Core.Path.{sym}
+use Rattle.client.proofs.HearLaws.{read_found, read_counted}
+use Rattle.client.proofs.hear.first_read.Goals as goal
+
+pub returns-then-plan-n : goal.returns-then-plan-n
+returns-then-plan-n c =
+    let a = c.args in
+    let pre = c.requires in
+    let if1 = c.if-plan-n in
+    λ i j. sym (read_found a.plan i j a.c a.heard _ (pre) a.best _ (sym (c.end.ensures i j)) if1.true)
+
+pub returns : goal.returns
+returns c =
+    let a = c.args in
+    let pre = c.requires in
+    let if1 = c.if-plan-n in
+    λ i j. sym (read_counted a.plan i j a.c a.heard _ (pre) a.best _ (sym (c.count.ensures i j)) if1.false)

@@ -1,0 +1,31 @@
+-- `versions_sound` meets its contract: places below i pass the test, and the rest are looked at from i on. Assumes nothing.
+use Prim.Native.Nat.{◌-◌}
+use borrow.Author.Rules.{rules}
+use mathlib.Core.Path.{refl, sym, ◌∙◌}
+use native.Mathlib.Omega.{arith}
+use Rattle.guard.proofs.ScanLaws.{all_end, all_stop, all_next}
+use Rattle.guard.specs.Damage.{version_sound}
+use Rattle.guard.proofs.cabinets.versions_sound.Goals as goal
+
+pub loop-i-init : goal.loop-i-init
+loop-i-init c = (search rules, search rules, refl)
+
+pub loop-i-preserved : goal.loop-i-preserved
+loop-i-preserved c =
+    let b = c.before.before.before.before in
+    let a = b.before.args in
+    (omega arith, b.loop.invariant.1, b.loop.invariant.2 ∙ all_next (version_sound a.steps a.kept) a.t3 b.loop.i _ (sym c.version_sound.ensures ∙ c.if-version_sound.true) (omega arith))
+
+pub returns-else-version_sound : goal.returns-else-version_sound
+returns-else-version_sound c =
+    let b = c.before.before.before.before in
+    let a = b.before.args in
+    all_stop (version_sound a.steps a.kept) a.t3 b.loop.i _ (sym c.version_sound.ensures ∙ c.if-version_sound.false)
+    (omega arith)
+    ∙ sym b.loop.invariant.2
+
+pub returns : goal.returns
+returns c =
+    let b = c.before in
+    let a = b.before.args in
+    all_end (version_sound a.steps a.kept) a.t3 b.loop.i (omega arith) ∙ sym b.loop.invariant.2

@@ -1,0 +1,32 @@
+-- `slots_sound` meets its contract: places below j pass the test, and the rest are looked at from j on. Assumes nothing.
+use Prim.Native.Nat.{◌-◌}
+use borrow.Author.Rules.{rules}
+use mathlib.Core.Path.{refl, sym, ◌∙◌}
+use native.Mathlib.Omega.{arith}
+use Rattle.guard.proofs.ScanLaws.{all_end, all_stop, all_next}
+use Rattle.guard.specs.Damage.{slot_sound}
+use Rattle.guard.proofs.slots.slots_sound.Goals as goal
+
+pub loop-j-init : goal.loop-j-init
+loop-j-init c = (search rules, search rules, refl)
+
+pub loop-j-preserved : goal.loop-j-preserved
+unfolding slot_sound
+loop-j-preserved c =
+    let b = c.before.before.before.before in
+    let a = b.before.args in
+    (omega arith, b.loop.invariant.1, b.loop.invariant.2 ∙ all_next (slot_sound a.n a.steps) a.t3 b.loop.j _ (sym c.slot_sound.ensures ∙ c.if-slot_sound.true) (omega arith))
+
+pub returns-else-slot_sound : goal.returns-else-slot_sound
+unfolding slot_sound
+returns-else-slot_sound c =
+    let b = c.before.before.before.before in
+    let a = b.before.args in
+    all_stop (slot_sound a.n a.steps) a.t3 b.loop.j _ (sym c.slot_sound.ensures ∙ c.if-slot_sound.false) (omega arith)
+    ∙ sym b.loop.invariant.2
+
+pub returns : goal.returns
+returns c =
+    let b = c.before in
+    let a = b.before.args in
+    all_end (slot_sound a.n a.steps) a.t3 b.loop.j (omega arith) ∙ sym b.loop.invariant.2

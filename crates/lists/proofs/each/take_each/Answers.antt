@@ -1,0 +1,40 @@
+-- `take_each` meets its contract: i steps are taken, and their numbers stand in front. Assumes nothing.
+use Prim.Native.Nat.{◌-◌, ◌≤◌}
+use lib.ListN.{length}
+use borrow.Author.Rules.{rules}
+use mathlib.Core.Path.{sym}
+use native.Mathlib.Omega.{arith}
+use Rattle.lists.proofs.ListLaws.{going_none, going_next, going_all}
+use Rattle.lists.proofs.each.take_each.Goals as goal
+
+pub loop-i-init : goal.loop-i-init
+loop-i-init c = let a = c.args in going_none a.run a.t2 a.count a.answers.now c.requires.2
+
+pub bounds-steps-i : goal.bounds-steps-i
+bounds-steps-i c = let l = c.before in omega (arith, l.before.before.requires.0, c.loop-i-test.true)
+
+pub go-x-requires : goal.go-x-requires
+go-x-requires c = sym c.loop-i.invariant.sound
+
+pub bounds-answers-i : goal.bounds-answers-i
+bounds-answers-i c =
+    let l = c.before.before.before.before in
+    omega (arith, l.loop.invariant.long, l.before.before.requires.1, c.loop-i-test.true)
+
+pub loop-i-preserved : goal.loop-i-preserved
+loop-i-preserved c =
+    let l = c.before.before.before.before.before in
+    let b = l.before.before in
+    let listed : b.args.count ≤ length b.args.t2 = search rules in
+    going_next b.args.run b.args.t2 b.args.count b.args.answers.now listed b.requires.1 l.loop.i l.loop.held
+    l.loop.answers l.loop.invariant c.loop-i-test.true _ c.go-x.result
+    c.go-x.ensures c.number.result c.number.ensures
+
+pub shape_of-answers : goal.shape_of-answers
+shape_of-answers c = c.loop-i.invariant.long
+
+pub returns : goal.returns
+returns c =
+    let l = c.before in
+    let a = l.before.before.args in
+    going_all a.run a.t2 a.count a.answers.now l.loop.i l.loop.held l.loop.answers l.loop.invariant c.loop-i-test.false

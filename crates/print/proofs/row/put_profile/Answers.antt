@@ -1,0 +1,9 @@
+-- `put_profile` meets its contract: each profile has its own word. Assumes nothing.
+use native.Mathlib.Omega.{arith}
+use Rattle.print.proofs.row.put_profile.Goals as goal
+
+pub returns-in-Forgetful : goal.returns-in-Forgetful
+returns-in-Forgetful c = (rw c.in-Forgetful.is c.put_bytes.ensures, omega arith)
+
+pub returns-in-Store : goal.returns-in-Store
+returns-in-Store c = (rw c.in-Store.is c.put_bytes-in-Store.ensures, omega arith)

@@ -1,0 +1,23 @@
+-- `others_marked` meets its contract: what is counted so far and what is left make up the whole. Assumes nothing.
+use Prim.Native.Nat.{◌-◌}
+use mathlib.Core.Logic.{⊎_elim}
+use mathlib.Core.Path.{sym, ◌∙◌}
+use native.Mathlib.Omega.{arith}
+use Rattle.types.specs.Parts.{no_cabinet}
+use Rattle.run.proofs.GatherLaws.{others_end, others_more, others_same}
+use Rattle.run.proofs.gather.others_marked.Goals as goal
+
+pub loop-i-preserved : goal.loop-i-preserved
+loop-i-preserved c =
+    let l = c.before.before.before.before in
+    let p = l.before.args.p in
+    let ks = l.before.args.t2 in
+    ⊎_elim
+    (λ w. (omega arith, l.loop.invariant.1, omega arith, omega (arith, others_more p ks l.loop.i no_cabinet (omega arith) (sym c.counts.ensures ∙ w.0.taken))))
+    (λ w. (omega arith, l.loop.invariant.1, omega arith, omega (arith, others_same p ks l.loop.i no_cabinet (omega arith) (sym c.counts.ensures ∙ w.0.left))))
+    c.if-counts.branch
+
+pub returns : goal.returns
+returns c =
+    let end = others_end c.args.p c.args.t2 c.loop-i.i (omega arith) in
+    omega arith

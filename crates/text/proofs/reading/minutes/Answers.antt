@@ -1,0 +1,35 @@
+-- `minutes` meets its contract. Assumes nothing.
+use mathlib.Core.Path.{◌≡◌, sym, ◌∙◌}
+use native.Mathlib.Omega.{arith}
+use Rattle.text.proofs.PairLaws.{told_fits}
+use Rattle.text.proofs.ReadingLaws.{minutes_none, minutes_large, minutes_is, minutes_used}
+use Rattle.text.specs.Pieces.{number_at}
+use Rattle.text.specs.Names.{Number}
+use Rattle.text.proofs.reading.minutes.Goals as goal
+
+-- what `number_at` told, in the arm where it found a number
+told : (c : goal.In-Value-2)
+    → number_at c.args.s.now ≡ Number.Value c.in-Value.m c.in-Value.n
+told c = sym c.number_at.ensures ∙ c.in-Value.is
+
+pub returns-then-m-gt-MOST_STEP_NUMBER : goal.returns-then-m-gt-MOST_STEP_NUMBER
+returns-then-m-gt-MOST_STEP_NUMBER c = minutes_large _ _ _ (told c.before.before) c.if-m-gt-MOST_STEP_NUMBER.true
+
+pub slice_bounds-same-count : goal.slice_bounds-same-count
+slice_bounds-same-count c = omega (arith, told_fits _ _ _ (told c.before.before))
+
+pub slice_bounds-same-start : goal.slice_bounds-same-start
+slice_bounds-same-start c = omega (arith, told_fits _ _ _ (told c.before.before))
+
+pub returns-then-same : goal.returns-then-same
+returns-then-same c =
+    let i = c.before.before.before.before in
+    minutes_is _ _ _ (told i.before.before) i.if1.false (sym c.same.ensures ∙ c.if-same.true)
+
+pub returns-in-NoNumber : goal.returns-in-NoNumber
+returns-in-NoNumber c = minutes_none _ (sym c.number_at.ensures ∙ c.in-NoNumber.is)
+
+pub returns-else-same : goal.returns-else-same
+returns-else-same c =
+    let i = c.before.before.before.before in
+    minutes_used _ _ _ (told i.before.before) i.if1.false (sym c.same.ensures ∙ c.if-same.false)

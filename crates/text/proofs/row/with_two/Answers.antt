@@ -1,0 +1,42 @@
+-- `with_two` meets its contract. Assumes nothing.
+use mathlib.Core.Path.{◌≡◌, sym, ◌∙◌, ap}
+use native.Mathlib.Omega.{arith}
+use Rattle.text.proofs.PairLaws.{pair_fits}
+use Rattle.text.proofs.StepLaws.{two_none, two_large, two_large_2, two_is, two_used}
+use Rattle.text.specs.Pieces.{pair_at}
+use Rattle.text.specs.Names.{Pair, Row}
+use Rattle.text.proofs.row.with_two.Goals as goal
+
+-- what `pair_at` told, in the arm where it found two numbers
+told : (c : goal.In-Values-2)
+    → pair_at c.args.s.now ≡ Pair.Values c.in-Values.a c.in-Values.b
+    c.in-Values.n
+told c = sym c.pair_at.ensures ∙ c.in-Values.is
+
+pub returns-then-a-gt-MOST_STEP_NUMBER : goal.returns-then-a-gt-MOST_STEP_NUMBER
+returns-then-a-gt-MOST_STEP_NUMBER c = two_large _ _ _ _ _ (told c.before.before) c.if-a-gt-MOST_STEP_NUMBER.true
+
+pub returns-then-b-gt-MOST_STEP_NUMBER : goal.returns-then-b-gt-MOST_STEP_NUMBER
+returns-then-b-gt-MOST_STEP_NUMBER c = two_large_2 _ _ _ _ _ (told c.before.before.before) c.if-b-gt-MOST_STEP_NUMBER.true
+
+pub slice_bounds-same-count : goal.slice_bounds-same-count
+slice_bounds-same-count c = omega (arith, pair_fits _ _ _ _ (told c.before.before.before))
+
+pub slice_bounds-same-start : goal.slice_bounds-same-start
+slice_bounds-same-start c = omega (arith, pair_fits _ _ _ _ (told c.before.before.before))
+
+pub returns-then-same : goal.returns-then-same
+returns-then-same c =
+    let i = c.before.before.before.before.before in
+    ap Row.Step c.two_step.ensures
+    ∙ two_is _ _ _ _ _ (told i.before.before.before) i.before.if1.false i.if2.false
+    (sym c.same.ensures ∙ c.if-same.true)
+
+pub returns-in-NoPair : goal.returns-in-NoPair
+returns-in-NoPair c = two_none _ _ (sym c.pair_at.ensures ∙ c.in-NoPair.is)
+
+pub returns-else-same : goal.returns-else-same
+returns-else-same c =
+    let i = c.before.before.before.before in
+    two_used _ _ _ _ _ (told i.before.before.before) i.before.if1.false i.if2.false
+    (sym c.same.ensures ∙ c.if-same.false)

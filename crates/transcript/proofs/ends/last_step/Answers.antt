@@ -1,0 +1,26 @@
+-- `transcript::ends::last_step` meets its contract: one row, which its LF ends. Assumes nothing.
+use Rattle.transcript.proofs.TookLaws.{crlf_one, crlf_ended, running_sound}
+use mathlib.Core.Path.{sym}
+use lib.Seq.{length-take-le}
+use native.Mathlib.Omega.{arith}
+use Rattle.transcript.proofs.ends.last_step.Goals as goal
+
+pub slice_bounds-steps-end : goal.slice_bounds-steps-end
+slice_bounds-steps-end c = sym (length-take-le _ _ (omega (arith, c.close-n.ensures.1, c.s-2-1.given.0)))
+
+pub steps-went-requires : goal.steps-went-requires
+steps-went-requires c =
+    let args = c.args in
+    let close = c.close-n in
+    let pre = c.requires in
+    let o = crlf_one args.kept args.line.now args.run close.ensures.2 pre.0.1 pre.0.2 pre.1.1.1 _ close.ensures.0 in
+    (omega (arith, o), (omega (arith, o), running_sound args.kept.phase args.run pre.0.2 pre.1.1.1.0))
+
+pub returns : goal.returns
+returns c =
+    let args = c.args in
+    let close = c.close-n in
+    let pre = c.requires in
+    let steps = c.steps-went in
+    let q = crlf_ended args.kept args.line.now args.run close.ensures.2 pre.0.1 pre.0.2 pre.1.1.1 _ _ _ steps.result pre.0.0 close.ensures.0 steps.ensures in
+    (q.0.0, (q.0.1, q.1))
