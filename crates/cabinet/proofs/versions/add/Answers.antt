@@ -10,6 +10,5 @@ use Rattle.cabinet.proofs.versions.add.Goals as goal
 
 pub returns : goal.returns
 returns c =
-    let s = c.before.before.before.before.before.before.before in
-    let h : length s.args.t1 ≡ most_versions = omega arith in
-    ap (added s.args.e) (sym (eight factory_entry s.args.t1 h))
+    let h : length c.args.v ≡ most_versions = omega arith in
+    ap (added c.args.e) (sym (eight factory_entry c.args.v h))

@@ -7,8 +7,7 @@ use Rattle.cabinet.proofs.versions.older_from.Goals as goal
 
 pub loop-i-preserved : goal.loop-i-preserved
 loop-i-preserved c =
-    let l = c.before.before in
-    (omega arith, l.loop.invariant.1, simp length-set l.loop.invariant.2, l.loop.invariant.3, older_turn _ _ _ _ l.loop.invariant.1 l.loop.invariant.4 c.loop-i-test.true)
+    (omega arith, c.loop-i.invariant.1, simp length-set c.loop-i.invariant.2, c.loop-i.invariant.3, older_turn _ _ _ _ c.loop-i.invariant.1 c.loop-i.invariant.4 c.loop-i-test.true)
 
 pub returns : goal.returns
 returns c = older_done _ _ _ _ c.loop-i.invariant.1 c.loop-i.invariant.4 c.loop-i.invariant.0 c.loop-i-test.false

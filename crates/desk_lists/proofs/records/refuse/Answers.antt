@@ -8,28 +8,24 @@ use Rattle.desk_lists.proofs.ViewLaws.{wrong_untaken, wrong_all}
 use Rattle.desk_lists.proofs.records.refuse.Goals as goal
 
 -- the call, from where it was seen whether the list fits
-abbrev start : tie.After-fits2 → tie.Start
+abbrev start : goal.After-fits → goal.Start
 start f = f.before.before
 
-fitting : (f : tie.After-fits2) (b : Bool) → f.fits2.result ≡ b → let a = (start f).args in fits a.count (length a.answers.now) ≡ b
-fitting f b e = sym f.fits2.ensures ∙ e
+fitting : (f : goal.After-fits) (b : Bool) → f.fits.result ≡ b → let a = f.args in fits a.count (length a.answers.now) ≡ b
+fitting f b e = sym f.fits.ensures ∙ e
 
 pub fill-requires : goal.fill-requires
 fill-requires c =
-    let f = c.before.before in
-    let a = (start f).args in
-    (fits_says a.count (length a.answers.now) (fitting f true c.if-fits.true)).1
+    let a = c.args in
+    (fits_says a.count (length a.answers.now) (fitting c.before.before true c.if-fits.true)).1
 
 pub returns-then-fits : goal.returns-then-fits
 returns-then-fits c =
-    let e = c.before.before in
-    let f = e.before.before.before in
-    let a = (start f).args in
-    wrong_all a.run a.count a.answers.now _ (fitting f true e.before.before.if1.true) e.fill.ensures
+    let a = c.args in
+    wrong_all a.run a.count a.answers.now _ (fitting c.before.before.before.before.before true c.if-fits.true) c.fill.ensures
 
 pub returns : goal.returns
 unfolding untaken_of
 returns c =
-    let f = c.before in
-    let a = (start f).args in
-    wrong_untaken a.run a.count a.answers.now (fitting f false c.if-fits.false)
+    let a = c.args in
+    wrong_untaken a.run a.count a.answers.now (fitting c.before false c.if-fits.false)

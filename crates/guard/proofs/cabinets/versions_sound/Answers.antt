@@ -12,20 +12,17 @@ loop-i-init c = (search rules, search rules, refl)
 
 pub loop-i-preserved : goal.loop-i-preserved
 loop-i-preserved c =
-    let b = c.before.before.before.before in
-    let a = b.before.args in
-    (omega arith, b.loop.invariant.1, b.loop.invariant.2 ∙ all_next (version_sound a.steps a.kept) a.t3 b.loop.i _ (sym c.version_sound.ensures ∙ c.if-version_sound.true) (omega arith))
+    let a = c.args in
+    (omega arith, c.loop-i.invariant.1, c.loop-i.invariant.2 ∙ all_next (version_sound a.steps a.kept) a.t3 c.loop-i.i _ (sym c.version_sound.ensures ∙ c.if-version_sound.true) (omega arith))
 
 pub returns-else-version_sound : goal.returns-else-version_sound
 returns-else-version_sound c =
-    let b = c.before.before.before.before in
-    let a = b.before.args in
-    all_stop (version_sound a.steps a.kept) a.t3 b.loop.i _ (sym c.version_sound.ensures ∙ c.if-version_sound.false)
+    let a = c.args in
+    all_stop (version_sound a.steps a.kept) a.t3 c.loop-i.i _ (sym c.version_sound.ensures ∙ c.if-version_sound.false)
     (omega arith)
-    ∙ sym b.loop.invariant.2
+    ∙ sym c.loop-i.invariant.2
 
 pub returns : goal.returns
 returns c =
-    let b = c.before in
-    let a = b.before.args in
-    all_end (version_sound a.steps a.kept) a.t3 b.loop.i (omega arith) ∙ sym b.loop.invariant.2
+    let a = c.args in
+    all_end (version_sound a.steps a.kept) a.t3 c.loop-i.i (omega arith) ∙ sym c.loop-i.invariant.2

@@ -13,20 +13,17 @@ loop-i-init c = (search rules, search rules, refl)
 pub loop-i-preserved : goal.loop-i-preserved
 unfolding client_sound
 loop-i-preserved c =
-    let b = c.before.before.before.before in
-    let a = b.before.args in
-    (omega arith, b.loop.invariant.1, b.loop.invariant.2 ∙ all_next (client_sound a.plan a.steps) a.t3 b.loop.i _ (sym c.client_sound.ensures ∙ c.if-client_sound.true) (omega arith))
+    let a = c.args in
+    (omega arith, c.loop-i.invariant.1, c.loop-i.invariant.2 ∙ all_next (client_sound a.plan a.steps) a.t3 c.loop-i.i _ (sym c.client_sound.ensures ∙ c.if-client_sound.true) (omega arith))
 
 pub returns-else-client_sound : goal.returns-else-client_sound
 unfolding client_sound
 returns-else-client_sound c =
-    let b = c.before.before.before.before in
-    let a = b.before.args in
-    all_stop (client_sound a.plan a.steps) a.t3 b.loop.i _ (sym c.client_sound.ensures ∙ c.if-client_sound.false) (omega arith)
-    ∙ sym b.loop.invariant.2
+    let a = c.args in
+    all_stop (client_sound a.plan a.steps) a.t3 c.loop-i.i _ (sym c.client_sound.ensures ∙ c.if-client_sound.false) (omega arith)
+    ∙ sym c.loop-i.invariant.2
 
 pub returns : goal.returns
 returns c =
-    let b = c.before in
-    let a = b.before.args in
-    all_end (client_sound a.plan a.steps) a.t3 b.loop.i (omega arith) ∙ sym b.loop.invariant.2
+    let a = c.args in
+    all_end (client_sound a.plan a.steps) a.t3 c.loop-i.i (omega arith) ∙ sym c.loop-i.invariant.2

@@ -11,15 +11,14 @@ pub loop-i-init : goal.loop-i-init
 loop-i-init c = filling_none _ _ _
 
 pub bounds-answers-i : goal.bounds-answers-i
-bounds-answers-i c = let l = c.before in omega (arith, l.loop.invariant.long, l.before.requires, c.loop-i-test.true)
+bounds-answers-i c = omega (arith, c.loop-i.invariant.long, c.requires, c.loop-i-test.true)
 
 pub loop-i-preserved : goal.loop-i-preserved
-loop-i-preserved c = let l = c.before in filling_next _ _ _ l.before.requires l.loop.i l.loop.answers l.loop.invariant c.loop-i-test.true
+loop-i-preserved c = filling_next _ _ _ c.requires c.loop-i.i c.loop-i.answers c.loop-i.invariant c.loop-i-test.true
 
 pub shape_of-answers : goal.shape_of-answers
 shape_of-answers c = c.loop-i.invariant.long
 
 pub returns : goal.returns
-returns c = let l = c.before in
-    let e : l.loop.i ≡ l.before.args.count = omega (arith, l.loop.invariant.within, c.loop-i-test.false) in
-    l.loop.invariant.wrote ∙ ap (λ (k : ℕ). in_front (replicate k l.before.args.number) l.before.args.answers.now) e
+returns c = let e : c.loop-i.i ≡ c.args.count = omega (arith, c.loop-i.invariant.within, c.loop-i-test.false) in
+    c.loop-i.invariant.wrote ∙ ap (λ (k : ℕ). in_front (replicate k c.args.number) c.args.answers.now) e

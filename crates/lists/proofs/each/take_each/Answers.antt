@@ -11,23 +11,20 @@ pub loop-i-init : goal.loop-i-init
 loop-i-init c = let a = c.args in going_none a.run a.t2 a.count a.answers.now c.requires.2
 
 pub bounds-steps-i : goal.bounds-steps-i
-bounds-steps-i c = let l = c.before in omega (arith, l.before.before.requires.0, c.loop-i-test.true)
+bounds-steps-i c = omega (arith, c.requires.0, c.loop-i-test.true)
 
 pub go-x-requires : goal.go-x-requires
 go-x-requires c = sym c.loop-i.invariant.sound
 
 pub bounds-answers-i : goal.bounds-answers-i
 bounds-answers-i c =
-    let l = c.before.before.before.before in
-    omega (arith, l.loop.invariant.long, l.before.before.requires.1, c.loop-i-test.true)
+    omega (arith, c.loop-i.invariant.long, c.requires.1, c.loop-i-test.true)
 
 pub loop-i-preserved : goal.loop-i-preserved
 loop-i-preserved c =
-    let l = c.before.before.before.before.before in
-    let b = l.before.before in
-    let listed : b.args.count ≤ length b.args.t2 = search rules in
-    going_next b.args.run b.args.t2 b.args.count b.args.answers.now listed b.requires.1 l.loop.i l.loop.held
-    l.loop.answers l.loop.invariant c.loop-i-test.true _ c.go-x.result
+    let listed : c.args.count ≤ length c.args.steps = search rules in
+    going_next c.args.run c.args.steps c.args.count c.args.answers.now listed c.requires.1 c.loop-i.i c.loop-i.held
+    c.loop-i.answers c.loop-i.invariant c.loop-i-test.true _ c.go-x.result
     c.go-x.ensures c.number.result c.number.ensures
 
 pub shape_of-answers : goal.shape_of-answers
@@ -35,6 +32,5 @@ shape_of-answers c = c.loop-i.invariant.long
 
 pub returns : goal.returns
 returns c =
-    let l = c.before in
-    let a = l.before.before.args in
-    going_all a.run a.t2 a.count a.answers.now l.loop.i l.loop.held l.loop.answers l.loop.invariant c.loop-i-test.false
+    let a = c.args in
+    going_all a.run a.t2 a.count a.answers.now c.loop-i.i c.loop-i.held c.loop-i.answers c.loop-i.invariant c.loop-i-test.false

@@ -11,12 +11,12 @@ loop-j-preserved c =
     let args = c.args in
     let loop = c.loop-j in
     let is-empty = c.is_empty in
-    first_next args.t1 loop.j loop.j (sym is-empty.ensures ∙ c.if-is_empty.false) in
+    first_next args.slots loop.j loop.j (sym is-empty.ensures ∙ c.if-is_empty.false) in
     (omega arith, c.loop-j.invariant.1, c.loop-j.invariant.2 ∙ more)
 
 pub returns-then-j-eq-MOST_SLOTS : goal.returns-then-j-eq-MOST_SLOTS
 returns-then-j-eq-MOST_SLOTS c =
-    let end = first_end c.args.t1 c.loop-j.j (omega arith) in
+    let end = first_end c.args.slots c.loop-j.j (omega arith) in
     sym (c.loop-j.invariant.2 ∙ end)
 
 pub returns-then-is_empty : goal.returns-then-is_empty
@@ -25,5 +25,5 @@ returns-then-is_empty c =
     let args = c.args in
     let loop = c.loop-j in
     let is-empty = c.is_empty in
-    first_here args.t1 loop.j loop.j (sym is-empty.ensures ∙ c.if-is_empty.true) in
+    first_here args.slots loop.j loop.j (sym is-empty.ensures ∙ c.if-is_empty.true) in
     sym (c.loop-j.invariant.2 ∙ here)

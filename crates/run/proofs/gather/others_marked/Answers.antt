@@ -9,15 +9,14 @@ use Rattle.run.proofs.gather.others_marked.Goals as goal
 
 pub loop-i-preserved : goal.loop-i-preserved
 loop-i-preserved c =
-    let l = c.before.before.before.before in
-    let p = l.before.args.p in
-    let ks = l.before.args.t2 in
+    let p = c.args.p in
+    let ks = c.args.cabinets in
     ⊎_elim
-    (λ w. (omega arith, l.loop.invariant.1, omega arith, omega (arith, others_more p ks l.loop.i no_cabinet (omega arith) (sym c.counts.ensures ∙ w.0.taken))))
-    (λ w. (omega arith, l.loop.invariant.1, omega arith, omega (arith, others_same p ks l.loop.i no_cabinet (omega arith) (sym c.counts.ensures ∙ w.0.left))))
+    (λ w. (omega arith, c.loop-i.invariant.1, omega arith, omega (arith, others_more p ks c.loop-i.i no_cabinet (omega arith) (sym c.counts.ensures ∙ w.0.true))))
+    (λ w. (omega arith, c.loop-i.invariant.1, omega arith, omega (arith, others_same p ks c.loop-i.i no_cabinet (omega arith) (sym c.counts.ensures ∙ w.0.false))))
     c.if-counts.branch
 
 pub returns : goal.returns
 returns c =
-    let end = others_end c.args.p c.args.t2 c.loop-i.i (omega arith) in
+    let end = others_end c.args.p c.args.cabinets c.loop-i.i (omega arith) in
     omega arith

@@ -13,13 +13,11 @@ loop-i-init c = (omega arith, c.if-s-t.false, refl)
 
 pub returns-then-s-i : goal.returns-then-s-i
 returns-then-s-i c =
-    let l = c.before.before.before.before in
-    begins_stop _ _ _ l.loop.invariant.1 c.loop-i-test.true c.if-s-i.true ∙ l.loop.invariant.2
+    begins_stop _ _ _ c.loop-i.invariant.1 c.loop-i-test.true c.if-s-i.true ∙ c.loop-i.invariant.2
 
 pub loop-i-preserved : goal.loop-i-preserved
 loop-i-preserved c =
-    let l = c.before.before.before.before in
-    (omega arith, l.loop.invariant.1, sym (begins_next _ _ _ l.loop.invariant.1 c.loop-i-test.true c.if-s-i.false) ∙ l.loop.invariant.2)
+    (omega arith, c.loop-i.invariant.1, sym (begins_next _ _ _ c.loop-i.invariant.1 c.loop-i-test.true c.if-s-i.false) ∙ c.loop-i.invariant.2)
 
 pub returns : goal.returns
 returns c = begins_end _ _ _ c.loop-i-test.false ∙ c.loop-i.invariant.2

@@ -20,8 +20,8 @@ one_more c = field_next _ _ _ c.loop-i-test.true c.wide-b.ensures.0 c.if-b-eq-CO
 no_more : (c : goal.Left-loop-i) → first (drop c.loop-i.i c.args.s.now) ≡ []
 no_more c =
     ⊎_elim
-    (λ w. field_end _ _ w.left)
-    (λ w. field_comma _ _ _ w.0.taken w.2.ensures.0 w.3.taken)
+    (λ w. field_end _ _ w.false)
+    (λ w. field_comma _ _ _ w.0.true w.2.ensures.0 w.3.true)
     c.loop-i-test.branch
 
 pub returns-then-b-lt-ZERO : goal.returns-then-b-lt-ZERO
@@ -42,19 +42,16 @@ returns-then-i-ge-MOST_DIGITS c =
 
 pub overflow_mul-v : goal.overflow_mul-v
 overflow_mul-v c =
-    let l = c.before.before.before.before.before.before.before in
-    omega (arith, small _ _ l.loop.invariant.2 l.loop.invariant.1)
+    omega (arith, small _ _ c.loop-i.invariant.2 c.loop-i.invariant.1)
 
 pub overflow_add-v : goal.overflow_add-v
 overflow_add-v c =
-    let l = c.before.before.before.before.before.before.before in
-    omega (arith, small _ _ l.loop.invariant.2 l.loop.invariant.1)
+    omega (arith, small _ _ c.loop-i.invariant.2 c.loop-i.invariant.1)
 
 pub loop-i-preserved : goal.loop-i-preserved
 loop-i-preserved c =
-    let l = c.before.before.before.before.before.before.before in
     let f = one_more c.before.before.before in
-    (omega arith, omega arith, grown _ _ _ l.loop.invariant.2 (omega arith), value_next _ _ _ _ f c.if-b-lt-ZERO.false c.if-b-gt-NINE.false ∙ l.loop.invariant.3, omega (arith, ap length f))
+    (omega arith, omega arith, grown _ _ _ c.loop-i.invariant.2 (omega arith), value_next _ _ _ _ f c.if-b-lt-ZERO.false c.if-b-gt-NINE.false ∙ c.loop-i.invariant.3, omega (arith, ap length f))
 
 pub returns-then-i-eq0 : goal.returns-then-i-eq0
 returns-then-i-eq0 c =

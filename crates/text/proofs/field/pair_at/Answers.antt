@@ -34,23 +34,19 @@ slice_bounds-number_at-start c = omega (arith, told_fits _ _ _ (told c.before.be
 
 pub overflow_add-result : goal.overflow_add-result
 overflow_add-result c =
-    let i = c.before.before.before.before.before in
-    omega (arith, pair_fits _ _ _ _ (sym (pair_is _ _ _ (told i.before.before) i.if1.false _ _ (told_2 c.before))))
+    omega (arith, pair_fits _ _ _ _ (sym (pair_is _ _ _ (told c.before.before.before.before.before.before.before) c.if-n-s.false _ _ (told_2 c.before))))
 
 pub overflow_add-result-in-Value-number_at : goal.overflow_add-result-in-Value-number_at
 overflow_add-result-in-Value-number_at c =
-    let i = c.before.before.before.before.before in
-    omega (arith, pair_fits _ _ _ _ (sym (pair_is _ _ _ (told i.before.before) i.if1.false _ _ (told_2 c.before))))
+    omega (arith, pair_fits _ _ _ _ (sym (pair_is _ _ _ (told c.before.before.before.before.before.before.before) c.if-n-s.false _ _ (told_2 c.before))))
 
 pub returns-in-NoNumber : goal.returns-in-NoNumber
 returns-in-NoNumber c = pair_none _ (sym c.number_at.ensures ∙ c.in-NoNumber.is)
 
 pub returns-in-NoNumber-number_at : goal.returns-in-NoNumber-number_at
 returns-in-NoNumber-number_at c =
-    let i = c.before.before.before.before in
-    pair_half _ _ _ (told i.before.before) i.if1.false (sym c.number_at-in-Value.ensures ∙ c.in-NoNumber-number_at.is)
+    pair_half _ _ _ (told c.before.before.before.before.before.before) c.if-n-s.false (sym c.number_at-in-Value.ensures ∙ c.in-NoNumber-number_at.is)
 
 pub returns-in-Value-number_at : goal.returns-in-Value-number_at
 returns-in-Value-number_at c =
-    let i = c.before.before.before.before.before in
-    pair_is _ _ _ (told i.before.before) i.if1.false _ _ (told_2 c.before)
+    pair_is _ _ _ (told c.before.before.before.before.before.before.before) c.if-n-s.false _ _ (told_2 c.before)

@@ -23,13 +23,11 @@ slice_bounds-same-start c = omega (arith, told_fits _ _ _ (told c.before.before)
 
 pub returns-then-same : goal.returns-then-same
 returns-then-same c =
-    let i = c.before.before.before.before in
-    minutes_is _ _ _ (told i.before.before) i.if1.false (sym c.same.ensures ∙ c.if-same.true)
+    minutes_is _ _ _ (told c.before.before.before.before.before.before.before) c.if-m-gt-MOST_STEP_NUMBER.false (sym c.same.ensures ∙ c.if-same.true)
 
 pub returns-in-NoNumber : goal.returns-in-NoNumber
 returns-in-NoNumber c = minutes_none _ (sym c.number_at.ensures ∙ c.in-NoNumber.is)
 
 pub returns-else-same : goal.returns-else-same
 returns-else-same c =
-    let i = c.before.before.before.before in
-    minutes_used _ _ _ (told i.before.before) i.if1.false (sym c.same.ensures ∙ c.if-same.false)
+    minutes_used _ _ _ (told c.before.before.before.before.before.before.before) c.if-m-gt-MOST_STEP_NUMBER.false (sym c.same.ensures ∙ c.if-same.false)

@@ -36,18 +36,15 @@ slice_bounds-t-start c = omega (arith, pair_fits _ _ _ _ (told c.before.before))
 
 pub returns-then-end-t : goal.returns-then-end-t
 returns-then-end-t c =
-    let i = c.before.before.before.before.before.before in
-    plan_is _ _ _ _ (told i.before.before) i.if1.false _ _ _ (told_2 c.before.before) (omega arith)
+    plan_is _ _ _ _ (told c.before.before.before.before.before.before.before.before) c.if-at-s.false _ _ _ (told_2 c.before.before) (omega arith)
 
 pub returns-in-NoPair : goal.returns-in-NoPair
 returns-in-NoPair c = plan_none _ (sym c.pair_at.ensures ∙ c.in-NoPair.is)
 
 pub returns-in-NoPair-pair_at : goal.returns-in-NoPair-pair_at
 returns-in-NoPair-pair_at c =
-    let i = c.before.before.before.before in
-    plan_none_2 _ _ _ _ (told i.before.before) i.if1.false (sym c.pair_at-in-Values.ensures ∙ c.in-NoPair-pair_at.is)
+    plan_none_2 _ _ _ _ (told c.before.before.before.before.before.before) c.if-at-s.false (sym c.pair_at-in-Values.ensures ∙ c.in-NoPair-pair_at.is)
 
 pub returns-else-end-t : goal.returns-else-end-t
 returns-else-end-t c =
-    let i = c.before.before.before.before.before.before in
-    plan_long _ _ _ _ (told i.before.before) i.if1.false _ _ _ (told_2 c.before.before) (λ e. omega arith)
+    plan_long _ _ _ _ (told c.before.before.before.before.before.before.before.before) c.if-at-s.false _ _ _ (told_2 c.before.before) (λ e. omega arith)

@@ -23,14 +23,12 @@ slice_bounds-same-start c = omega (arith, told_fits _ _ _ (told c.before.before)
 
 pub returns-then-same : goal.returns-then-same
 returns-then-same c =
-    let i = c.before.before.before.before.before in
     ap Row.Step c.one_step.ensures
-    ∙ one_is _ _ _ _ (told i.before.before) i.if1.false (sym c.same.ensures ∙ c.if-same.true)
+    ∙ one_is _ _ _ _ (told c.before.before.before.before.before.before.before.before) c.if-a-gt-MOST_STEP_NUMBER.false (sym c.same.ensures ∙ c.if-same.true)
 
 pub returns-in-NoNumber : goal.returns-in-NoNumber
 returns-in-NoNumber c = one_none _ _ (sym c.number_at.ensures ∙ c.in-NoNumber.is)
 
 pub returns-else-same : goal.returns-else-same
 returns-else-same c =
-    let i = c.before.before.before.before in
-    one_used _ _ _ _ (told i.before.before) i.if1.false (sym c.same.ensures ∙ c.if-same.false)
+    one_used _ _ _ _ (told c.before.before.before.before.before.before.before) c.if-a-gt-MOST_STEP_NUMBER.false (sym c.same.ensures ∙ c.if-same.false)

@@ -27,9 +27,8 @@ slice_bounds-same-start c = omega (arith, pair_fits _ _ _ _ (told c.before.befor
 
 pub returns-then-same : goal.returns-then-same
 returns-then-same c =
-    let i = c.before.before.before.before.before in
     ap Row.Step c.two_step.ensures
-    ∙ two_is _ _ _ _ _ (told i.before.before.before) i.before.if1.false i.if2.false
+    ∙ two_is _ _ _ _ _ (told c.before.before.before.before.before.before.before.before.before) c.if-a-gt-MOST_STEP_NUMBER.false c.if-b-gt-MOST_STEP_NUMBER.false
     (sym c.same.ensures ∙ c.if-same.true)
 
 pub returns-in-NoPair : goal.returns-in-NoPair
@@ -37,6 +36,5 @@ returns-in-NoPair c = two_none _ _ (sym c.pair_at.ensures ∙ c.in-NoPair.is)
 
 pub returns-else-same : goal.returns-else-same
 returns-else-same c =
-    let i = c.before.before.before.before in
-    two_used _ _ _ _ _ (told i.before.before.before) i.before.if1.false i.if2.false
+    two_used _ _ _ _ _ (told c.before.before.before.before.before.before.before.before) c.if-a-gt-MOST_STEP_NUMBER.false c.if-b-gt-MOST_STEP_NUMBER.false
     (sym c.same.ensures ∙ c.if-same.false)

@@ -32,12 +32,10 @@ returns-in-NoNumber c = write_none _ (sym c.number_at.ensures ∙ c.in-NoNumber.
 
 pub returns-in-Nothing : goal.returns-in-Nothing
 returns-in-Nothing c =
-    let i = c.before.before.before.before in
-    write_is _ _ _ (told i.before.before.before) i.before.if1.false i.if2.false _
+    write_is _ _ _ (told c.before.before.before.before.before.before.before) c.if-a-gt-MOST_STEP_NUMBER.false c.if-n-s.false _
     (sym c.in-Nothing.is ∙ c.reading_of.ensures)
 
 pub returns-in-Says : goal.returns-in-Says
 returns-in-Says c =
-    let i = c.before.before.before.before.before in
-    write_is _ _ _ (told i.before.before.before) i.before.if1.false i.if2.false _
+    write_is _ _ _ (told c.before.before.before.before.before.before.before.before) c.if-a-gt-MOST_STEP_NUMBER.false c.if-n-s.false _
     (sym c.in-Says.is ∙ c.reading_of.ensures)

@@ -10,13 +10,11 @@ returns-then-begins c = simp (sym c.begins.ensures ∙ c.if-begins.true)
 pub returns-then-begins-2 : goal.returns-then-begins-2
 unfolding head_in lead_by
 returns-then-begins-2 c =
-    let i = c.before.before.before in
-    simp (sym i.before.begins.ensures ∙ i.if1.false, sym c.begins-2.ensures ∙ c.if-begins-2.true)
+    simp (sym c.begins.ensures ∙ c.if-begins.false, sym c.begins-2.ensures ∙ c.if-begins-2.true)
 
 pub returns : goal.returns
 unfolding head_in lead_by
 returns c =
-    let i = c.before.before.before.before.before in
     c.head_if.ensures
     ∙ simp
-    (sym i.before.begins.ensures ∙ i.if1.false, sym c.begins-2.ensures ∙ c.if-begins-2.false)
+    (sym c.begins.ensures ∙ c.if-begins.false, sym c.begins-2.ensures ∙ c.if-begins-2.false)

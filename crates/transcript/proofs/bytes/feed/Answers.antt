@@ -18,66 +18,63 @@ use native.Mathlib.Omega.{arith}
 use Rattle.transcript.proofs.bytes.feed.Goals as goal
 
 abbrev Here : Type 0
-Here = tie.After-at-step
+Here = goal.After-at_step
 
-abbrev call : Here → tie.Start
+abbrev call : Here → goal.Start
 call h = h.before.before.before.before.before.before.before.before.before.before.before
 
-abbrev leads : Here → tie.After-lead
+abbrev leads : Here → goal.After-lead-led
 leads h = h.before.before.before.before.before.before
 
 abbrev before : Here → Mach
-before h = mach_of (call h).args.kept (call h).args.line.now (call h).args.run
+before h = mach_of h.args.kept h.args.line.now h.args.run
 
 abbrev rest : Here → List ℕ
-rest h = take (length (call h).args.s.now - (leads h).lead.result.used) (drop (leads h).lead.result.used (call h).args.s.now)
+rest h = take (length h.args.s.now - h.lead-led.result.used) (drop h.lead-led.result.used h.args.s.now)
 
 -- where steps are due, the run is undamaged
 abbrev Due : Here → Type 0
-Due h = at_step (leads h).lead.result.kept.phase (leads h).lead.result.kept.len ≡ true
+Due h = at_step h.lead-led.result.kept.phase h.lead-led.result.kept.len ≡ true
 
-sound : (h : Here) → Due h → undamaged (leads h).lead.result.run ≡ true
+sound : (h : Here) → Due h → undamaged h.lead-led.result.run ≡ true
 sound h due =
     let whole =
-    whole_at (before h) _ (take (leads h).lead.result.used (call h).args.s.now) (call h).requires.1.1 (leads h).lead.ensures.0 in
-    step_sound (leads h).lead.result.kept.phase (leads h).lead.result.kept.len (leads h).lead.result.run due whole.0
+    whole_at (before h) _ (take h.lead-led.result.used h.args.s.now) h.requires.1.1 h.lead-led.ensures.0 in
+    step_sound h.lead-led.result.kept.phase h.lead-led.result.kept.len h.lead-led.result.run due whole.0
 
 -- the rows that are left have room and numbers
-fits : (h : Here) → (leads h).lead.result.kept.at + room * breaks (rest h) ≤ length (call h).args.out.now
+fits : (h : Here) → h.lead-led.result.kept.at + room * breaks (rest h) ≤ length h.args.out.now
 fits h =
-    let most = rest_most (call h).args.s.now (leads h).lead.result.used in
-    omega (arith, most, (leads h).lead.ensures.1.1.1.0.0, (leads h).lead.ensures.1.1.1.1.0, (call h).requires.0)
+    let most = rest_most h.args.s.now h.lead-led.result.used in
+    omega (arith, most, h.lead-led.ensures.1.1.1.0.0, h.lead-led.ensures.1.1.1.1.0, h.requires.0)
 
-counted : (h : Here) → (leads h).lead.result.kept.row + breaks (rest h) < 2 ^ 64
+counted : (h : Here) → h.lead-led.result.kept.row + breaks (rest h) < 2 ^ 64
 counted h =
-    let most = rest_most (call h).args.s.now (leads h).lead.result.used in
-    omega (arith, most, (leads h).lead.ensures.1.1.1.0.1, (leads h).lead.ensures.1.1.1.1.0, (call h).requires.1.0)
+    let most = rest_most h.args.s.now h.lead-led.result.used in
+    omega (arith, most, h.lead-led.ensures.1.1.1.0.1, h.lead-led.ensures.1.1.1.1.0, h.requires.1.0)
 
 pub steps-went-requires : goal.steps-went-requires
 steps-went-requires c =
-    let h = c.before.before in
-    (omega (arith, fits h, h.before.before.before.before.before.out.given), (counted h, sound h (sym h.at-step.ensures ∙ c.if-at_step.true)))
+    (omega (arith, fits c.before.before, c.out-1.given), (counted c.before.before, sound c.before.before (sym c.at_step.ensures ∙ c.if-at_step.true)))
 
 pub hold-len-requires : goal.hold-len-requires
 hold-len-requires c =
-    let h = c.before.before.before.before.before.before.before.before in
     let steps = c.steps-went in
-    rw (part_all (rest h) steps.result.used) steps.ensures.rest
+    rw (part_all (rest c.before.before.before.before.before.before.before.before) steps.result.used) steps.ensures.rest
 
 pub returns-then-at_step : goal.returns-then-at_step
 returns-then-at_step c =
-    let h = c.before.before.before.before.before.before.before.before.before in
-    let due : Due h = sym h.at-step.ensures ∙ c.if-at_step.true in
-    let v = (leads h).lead.ensures in
+    let due : Due c.before.before.before.before.before.before.before.before.before = sym c.at_step.ensures ∙ c.if-at_step.true in
+    let v = c.lead-led.ensures in
     let t = c.steps-went.ensures in
-    let most = rest_most (call h).args.s.now (leads h).lead.result.used in
+    let most = rest_most c.args.s.now c.lead-led.result.used in
     let q =
-    fed_on (before h) (call h).args.s.now (leads h).lead.result.used (leads h).lead.result.kept _ _ (leads h).lead.result.run
+    fed_on (before c.before.before.before.before.before.before.before.before.before) c.args.s.now c.lead-led.result.used c.lead-led.result.kept _ _ c.lead-led.result.run
     c.steps-went.result
-    (call h).args.out.now _ _ (call h).args.kept.at c.hold-len.result (rest h) _
-    (part_all (call h).args.s.now (leads h).lead.result.used)
-    (part_all (rest h) c.steps-went.result.used)
-    v.0 (v.1.0, v.1.1.0) due (sound h due) t c.hold-len.ensures (omega (arith, (call h).requires.0)) in (
+    c.args.out.now _ _ c.args.kept.at c.hold-len.result (rest c.before.before.before.before.before.before.before.before.before) _
+    (part_all c.args.s.now c.lead-led.result.used)
+    (part_all (rest c.before.before.before.before.before.before.before.before.before) c.steps-went.result.used)
+    v.0 (v.1.0, v.1.1.0) due (sound c.before.before.before.before.before.before.before.before.before due) t c.hold-len.ensures (omega (arith, c.requires.0)) in (
       q.0,
       (
         q.1.0,
@@ -85,7 +82,7 @@ returns-then-at_step c =
           q.1.1,
           (
             (omega (arith, most, v.1.1.1.0.0, v.1.1.1.1.0, t.room), omega (arith, most, v.1.1.1.0.1, v.1.1.1.1.0, t.rows)),
-            whole_at (before h) _ (call h).args.s.now (call h).requires.1.1 q.0,
+            whole_at (before c.before.before.before.before.before.before.before.before.before) _ c.args.s.now c.requires.1.1 q.0,
           ),
         ),
       ),
@@ -93,18 +90,17 @@ returns-then-at_step c =
 
 pub returns : goal.returns
 returns c =
-    let h = c.before in
-    let v = (leads h).lead.ensures in
+    let v = c.lead-led.ensures in
     let all =
-    take_all (leads h).lead.result.used (call h).args.s.now
-    (all_led _ _ _ (sym h.at-step.ensures ∙ c.if-at_step.false) v.1.1.1.1.1) in
+    take_all c.lead-led.result.used c.args.s.now
+    (all_led _ _ _ (sym c.at_step.ensures ∙ c.if-at_step.false) v.1.1.1.1.1) in
     let q = rw all at v.0 in (
       q,
       (
         rw all at v.1.0,
         (
           rw all at v.1.1.0,
-          ((omega (arith, v.1.1.1.0.0, v.1.1.1.1.0), omega (arith, v.1.1.1.0.1, v.1.1.1.1.0)), whole_at (before h) _ (call h).args.s.now (call h).requires.1.1 q),
+          ((omega (arith, v.1.1.1.0.0, v.1.1.1.1.0), omega (arith, v.1.1.1.0.1, v.1.1.1.1.0)), whole_at (before c.before) _ c.args.s.now c.requires.1.1 q),
         ),
       ),
     )

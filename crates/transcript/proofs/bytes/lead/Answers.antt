@@ -29,8 +29,8 @@ loop-i-preserved c =
     let loop = c.loop-i in
     let loop-test = c.loop-i-test in
     ⊎_elim
-    (λ w. rw (w.8, w.9, w.10, w.11) (going_lf args.s.now args.out.now args.kept (mach_of args.kept args.line.now args.run) loop.i loop.line loop.out loop.k loop.held _ _ w.3.result loop.invariant loop-test.true w.0.taken w.3.ensures))
-    (λ w. rw (w.4, w.5, w.6, w.7) (going_in args.s.now args.out.now args.kept (mach_of args.kept args.line.now args.run) loop.i loop.line loop.out loop.k loop.held w.3.result _ loop.invariant loop-test.true w.0.left w.3.ensures))
+    (λ w. rw (w.8, w.9, w.10, w.11) (going_lf args.s.now args.out.now args.kept (mach_of args.kept args.line.now args.run) loop.i loop.line loop.out loop.k loop.held _ _ w.3.result loop.invariant loop-test.true w.0.true w.3.ensures))
+    (λ w. rw (w.4, w.5, w.6, w.7) (going_in args.s.now args.out.now args.kept (mach_of args.kept args.line.now args.run) loop.i loop.line loop.out loop.k loop.held w.3.result _ loop.invariant loop-test.true w.0.false w.3.ensures))
     c.if-s-i-eq10.branch
 
 pub returns-after-loop-i : goal.returns-after-loop-i
