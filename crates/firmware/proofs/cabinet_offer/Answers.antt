@@ -19,11 +19,12 @@ returns-then-answer-eq-TAKEN c =
     let judge = c.judge-answer in
     let if1 = c.if-answer-eq-TAKEN in
     taken _ _ _ _ _ decode.ensures decode2.ensures judge.ensures if1.true in
-    (t.0, c.copy_over.ensures ∙ t.1)
+    record { value = t.0; held_after = c.copy_over.ensures ∙ t.1 }
 
 pub returns-else-answer-eq-TAKEN : goal.returns-else-answer-eq-TAKEN
 returns-else-answer-eq-TAKEN c =
     let decode = c.decode-mine in
     let decode2 = c.decode-theirs in
     let judge = c.judge-answer in
-    not_taken _ _ _ _ _ decode.ensures decode2.ensures judge.ensures c.if-answer-eq-TAKEN.false
+    let t = not_taken _ _ _ _ _ decode.ensures decode2.ensures judge.ensures c.if-answer-eq-TAKEN.false in
+    record { value = t.0; held_after = t.1 }

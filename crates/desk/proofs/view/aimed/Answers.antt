@@ -8,7 +8,7 @@ use Rattle.desk.proofs.ViewLaws.{aims}
 use Rattle.desk.proofs.view.aimed.Goals as goal
 
 abbrev held : goal.After-admit → Run
-held h = h.args.t1
+held h = h.args.run
 
 abbrev asks : goal.After-admit → Step
 asks h = h.args.s

@@ -13,14 +13,14 @@ loop-i-init c = (search rules, search rules, refl)
 pub loop-i-preserved : goal.loop-i-preserved
 loop-i-preserved c =
     let a = c.args in
-    (omega arith, c.loop-i.invariant.1, c.loop-i.invariant.2 ∙ all_next (factory_at) a.t1 c.loop-i.i _ (sym c.is_factory.ensures ∙ c.if-is_factory.true) (omega arith))
+    (omega arith, c.loop-i.invariant.1, c.loop-i.invariant.2 ∙ all_next (factory_at) a.versions c.loop-i.i _ (sym c.is_factory.ensures ∙ c.if-is_factory.true) (omega arith))
 
 pub returns-else-is_factory : goal.returns-else-is_factory
 returns-else-is_factory c =
     let a = c.args in
-    all_stop (factory_at) a.t1 c.loop-i.i _ (sym c.is_factory.ensures ∙ c.if-is_factory.false) (omega arith) ∙ sym c.loop-i.invariant.2
+    all_stop (factory_at) a.versions c.loop-i.i _ (sym c.is_factory.ensures ∙ c.if-is_factory.false) (omega arith) ∙ sym c.loop-i.invariant.2
 
 pub returns : goal.returns
 returns c =
     let a = c.args in
-    all_end (factory_at) a.t1 c.loop-i.i (omega arith) ∙ sym c.loop-i.invariant.2
+    all_end (factory_at) a.versions c.loop-i.i (omega arith) ∙ sym c.loop-i.invariant.2

@@ -13,16 +13,16 @@ loop-i-init c = (search rules, search rules, refl)
 pub loop-i-preserved : goal.loop-i-preserved
 loop-i-preserved c =
     let a = c.args in
-    (omega arith, c.loop-i.invariant.1, c.loop-i.invariant.2 ∙ all_next (cabinet_sound a.plan a.steps) a.t3 c.loop-i.i _ (sym c.cabinet_sound.ensures ∙ c.if-cabinet_sound.true) (omega arith))
+    (omega arith, c.loop-i.invariant.1, c.loop-i.invariant.2 ∙ all_next (cabinet_sound a.plan a.steps) a.cabinets c.loop-i.i _ (sym c.cabinet_sound.ensures ∙ c.if-cabinet_sound.true) (omega arith))
 
 pub returns-else-cabinet_sound : goal.returns-else-cabinet_sound
 returns-else-cabinet_sound c =
     let a = c.args in
-    all_stop (cabinet_sound a.plan a.steps) a.t3 c.loop-i.i _ (sym c.cabinet_sound.ensures ∙ c.if-cabinet_sound.false)
+    all_stop (cabinet_sound a.plan a.steps) a.cabinets c.loop-i.i _ (sym c.cabinet_sound.ensures ∙ c.if-cabinet_sound.false)
     (omega arith)
     ∙ sym c.loop-i.invariant.2
 
 pub returns : goal.returns
 returns c =
     let a = c.args in
-    all_end (cabinet_sound a.plan a.steps) a.t3 c.loop-i.i (omega arith) ∙ sym c.loop-i.invariant.2
+    all_end (cabinet_sound a.plan a.steps) a.cabinets c.loop-i.i (omega arith) ∙ sym c.loop-i.invariant.2

@@ -14,16 +14,16 @@ pub loop-i-preserved : goal.loop-i-preserved
 unfolding client_sound
 loop-i-preserved c =
     let a = c.args in
-    (omega arith, c.loop-i.invariant.1, c.loop-i.invariant.2 ∙ all_next (client_sound a.plan a.steps) a.t3 c.loop-i.i _ (sym c.client_sound.ensures ∙ c.if-client_sound.true) (omega arith))
+    (omega arith, c.loop-i.invariant.1, c.loop-i.invariant.2 ∙ all_next (client_sound a.plan a.steps) a.clients c.loop-i.i _ (sym c.client_sound.ensures ∙ c.if-client_sound.true) (omega arith))
 
 pub returns-else-client_sound : goal.returns-else-client_sound
 unfolding client_sound
 returns-else-client_sound c =
     let a = c.args in
-    all_stop (client_sound a.plan a.steps) a.t3 c.loop-i.i _ (sym c.client_sound.ensures ∙ c.if-client_sound.false) (omega arith)
+    all_stop (client_sound a.plan a.steps) a.clients c.loop-i.i _ (sym c.client_sound.ensures ∙ c.if-client_sound.false) (omega arith)
     ∙ sym c.loop-i.invariant.2
 
 pub returns : goal.returns
 returns c =
     let a = c.args in
-    all_end (client_sound a.plan a.steps) a.t3 c.loop-i.i (omega arith) ∙ sym c.loop-i.invariant.2
+    all_end (client_sound a.plan a.steps) a.clients c.loop-i.i (omega arith) ∙ sym c.loop-i.invariant.2

@@ -14,16 +14,16 @@ pub loop-j-preserved : goal.loop-j-preserved
 unfolding slot_sound
 loop-j-preserved c =
     let a = c.args in
-    (omega arith, c.loop-j.invariant.1, c.loop-j.invariant.2 ∙ all_next (slot_sound a.n a.steps) a.t3 c.loop-j.j _ (sym c.slot_sound.ensures ∙ c.if-slot_sound.true) (omega arith))
+    (omega arith, c.loop-j.invariant.1, c.loop-j.invariant.2 ∙ all_next (slot_sound a.n a.steps) a.slots c.loop-j.j _ (sym c.slot_sound.ensures ∙ c.if-slot_sound.true) (omega arith))
 
 pub returns-else-slot_sound : goal.returns-else-slot_sound
 unfolding slot_sound
 returns-else-slot_sound c =
     let a = c.args in
-    all_stop (slot_sound a.n a.steps) a.t3 c.loop-j.j _ (sym c.slot_sound.ensures ∙ c.if-slot_sound.false) (omega arith)
+    all_stop (slot_sound a.n a.steps) a.slots c.loop-j.j _ (sym c.slot_sound.ensures ∙ c.if-slot_sound.false) (omega arith)
     ∙ sym c.loop-j.invariant.2
 
 pub returns : goal.returns
 returns c =
     let a = c.args in
-    all_end (slot_sound a.n a.steps) a.t3 c.loop-j.j (omega arith) ∙ sym c.loop-j.invariant.2
+    all_end (slot_sound a.n a.steps) a.slots c.loop-j.j (omega arith) ∙ sym c.loop-j.invariant.2

@@ -8,7 +8,7 @@ use Rattle.lists.proofs.ListLaws.{going_none, going_next, going_all}
 use Rattle.lists.proofs.each.take_each.Goals as goal
 
 pub loop-i-init : goal.loop-i-init
-loop-i-init c = let a = c.args in going_none a.run a.t2 a.count a.answers.now c.requires.2
+loop-i-init c = let a = c.args in going_none a.run a.steps a.count a.answers.now c.requires.2
 
 pub bounds-steps-i : goal.bounds-steps-i
 bounds-steps-i c = omega (arith, c.requires.0, c.loop-i-test.true)
@@ -33,4 +33,4 @@ shape_of-answers c = c.loop-i.invariant.long
 pub returns : goal.returns
 returns c =
     let a = c.args in
-    going_all a.run a.t2 a.count a.answers.now c.loop-i.i c.loop-i.held c.loop-i.answers c.loop-i.invariant c.loop-i-test.false
+    going_all a.run a.steps a.count a.answers.now c.loop-i.i c.loop-i.held c.loop-i.answers c.loop-i.invariant c.loop-i-test.false

@@ -271,7 +271,7 @@ pub returns : goal.returns
 returns c =
     let l = c.loop-due in
     let a = c.args in
-    ends a.t1 a.s l.due l.says l.run l.invariant c.loop-due-test.false
+    ends a.run a.s l.due l.says l.run l.invariant c.loop-due-test.false
 
 pub loop-due-smaller-in-Barred : goal.loop-due-smaller-in-Barred
 loop-due-smaller-in-Barred c = falls c.before.before.before

@@ -391,7 +391,7 @@ overflow_add-n c =
     let f = c.find-found in
     let later = c.if-found-i.false in
     omega
-    (arith, taking_row a.s.now l.i f.result.end f.result.step later f.ensures.0.1 (f.ensures.1.1 later) a.at a.row a.t5 a.out.now l.out l.o l.n l.run l.invariant)
+    (arith, taking_row a.s.now l.i f.result.end f.result.step later f.ensures.0.1 (f.ensures.1.1 later) a.at a.row a.run a.out.now l.out l.o l.n l.run l.invariant)
 
 pub shape_of-out : goal.shape_of-out
 shape_of-out c = c.loop-i.invariant.same
@@ -400,7 +400,7 @@ pub returns : goal.returns
 returns c =
     let a = c.args in
     let l = c.loop-i in
-    taking_end a.s.now a.at a.row a.t5 a.out.now l.i l.out l.o l.n l.run l.invariant
+    taking_end a.s.now a.at a.row a.run a.out.now l.i l.out l.o l.n l.run l.invariant
     (c.find-found.ensures.1.0 c.if-found-i.true)
 
 pub refuse-o-requires : goal.refuse-o-requires
