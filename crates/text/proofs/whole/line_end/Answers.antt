@@ -14,10 +14,12 @@ loop-i-preserved c =
     (omega arith, omega arith, part_bare args.s.now args.from loop.i (omega arith) (omega arith) c.if-s-i-eq10.false loop.invariant.2)
 
 pub returns-after-loop-i : goal.returns-after-loop-i
-returns-after-loop-i c = ((omega arith, omega arith), (c.loop-i.invariant.2, λ h. absurd (omega arith)))
+returns-after-loop-i c = let both = ((omega arith, omega arith), (c.loop-i.invariant.2, λ h. absurd (omega arith))) in
+    record { lower_bound = both.0; s_value = both.1; result_value = both.2 }
 
 pub returns-then-s-i-eq10 : goal.returns-then-s-i-eq10
-returns-then-s-i-eq10 c = ((omega arith, omega arith), (c.loop-i.invariant.2, λ h. c.if-s-i-eq10.true))
+returns-then-s-i-eq10 c = let both = ((omega arith, omega arith), (c.loop-i.invariant.2, λ h. c.if-s-i-eq10.true)) in
+    record { lower_bound = both.0; s_value = both.1; result_value = both.2 }
 
 pub bounds-s-i : goal.bounds-s-i
 bounds-s-i c = omega arith

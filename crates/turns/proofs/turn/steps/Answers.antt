@@ -379,7 +379,7 @@ loop-i-preserved-in-Ends c =
 
 pub loop-i-init : goal.loop-i-init
 loop-i-init c =
-    taking_none c.args.s.now c.args.at c.args.row c.args.run c.args.out.now c.requires.0 c.requires.1.0 c.requires.1.1
+    taking_none c.args.s.now c.args.at c.args.row c.args.run c.args.out.now c.requires.s_in_bounds c.requires.s_bound.0 c.requires.s_bound.1
 
 pub find-found-requires : goal.find-found-requires
 find-found-requires c = c.loop-i.invariant.within
