@@ -109,18 +109,6 @@ next h f q r e w most =
     h.loop-i.n (held h) h.loop-i.inv
     f q r (sym e) w most
 
-pub lose_at : (a : goal.In-Loses-2) → a.in-Loses.j < most_slots
-lose_at a = loses_place (here a.before.before) a.in-Loses.is
-
-pub stop_at : (a : goal.In-Stops-2) → a.in-Stops.p < most_cabinets
-stop_at a = stops_place (here a.before.before) a.in-Stops.is
-
-pub restart_at : (a : goal.In-Restarts-2) → a.in-Restarts.p < most_cabinets
-restart_at a = restarts_place (here a.before.before) a.in-Restarts.is
-
-pub roll_at : (a : goal.In-RollsBack-2) → a.in-RollsBack.p < most_cabinets
-roll_at a = rolls_place (here a.before.before) a.in-RollsBack.is
-
 -- a loss, the slot is empty
 pub loop-i-preserved-then-is_empty-2 : goal.loop-i-preserved-then-is_empty-2
 loop-i-preserved-then-is_empty-2 c =
@@ -196,15 +184,6 @@ loop-i-preserved c =
     (rolls_nowhere (here c.before.before.before.before.before.before.before.before.before.before.before.before.before.before) c.in-RollsBack.is
     (sym c.has_version.ensures ∙ c.if-has_version.false))
     w.0 w.1
-
-pub begin_at : (a : goal.In-Begins-2) → a.in-Begins.c < most_clients
-begin_at a = begins_place (here a.before.before) a.in-Begins.is
-
-pub leave_at : (a : goal.In-Leaves-2) → a.in-Leaves.c < most_clients
-leave_at a = leaves_place (here a.before.before) a.in-Leaves.is
-
-pub send_at : (a : goal.In-Sends-2) → a.in-Sends.c < most_clients
-send_at a = sends_place (here a.before.before) a.in-Sends.is
 
 -- barred
 pub loop-i-preserved-in-Barred : goal.loop-i-preserved-in-Barred
@@ -290,15 +269,6 @@ loop-i-preserved-else-j-lt-MOST_SLOTS c =
     none)
     w.0 w.1
 
-pub deliver_at : (a : goal.In-Delivers-2) → a.in-Delivers.j < most_slots
-deliver_at a = delivers_place (here a.before.before) a.in-Delivers.is
-
-pub cabinet_place : (r : goal.In-Request-2) → r.in-Request.m.cabinet < most_cabinets
-cabinet_place r = (request_places (held r.before.before.before.before.before.before) (sound r.before.before.before.before.before.before) _ _ r.in-Request.is).1
-
-pub client_place : (r : goal.In-Reply-2) → r.in-Reply.m.client < most_clients
-client_place r = (reply_places (held r.before.before.before.before.before.before) (sound r.before.before.before.before.before.before) _ _ r.in-Reply.is).0
-
 -- a delivery, the slot is empty
 pub loop-i-preserved-in-Empty : goal.loop-i-preserved-in-Empty
 loop-i-preserved-in-Empty c =
@@ -348,7 +318,8 @@ loop-i-preserved-else-takes c =
 
 pub hear-requires : goal.hear-requires
 hear-requires c =
-    (client_place c.before.before.before, client_best (held c.before.before.before.before.before.before.before.before.before) (sound c.before.before.before.before.before.before.before.before.before) _, reply_told (held c.before.before.before.before.before.before.before.before.before) (sound c.before.before.before.before.before.before.before.before.before) _ _ c.in-Reply.is)
+    let client_place : c.in-Reply.m.client < most_clients = (reply_places (held c.before.before.before.before.before.before) (sound c.before.before.before.before.before.before) _ _ c.in-Reply.is).0 in
+    (client_place, client_best (held c.before.before.before.before.before.before.before.before.before) (sound c.before.before.before.before.before.before.before.before.before) _, reply_told (held c.before.before.before.before.before.before.before.before.before) (sound c.before.before.before.before.before.before.before.before.before) _ _ c.in-Reply.is)
 
 -- a reply that is discarded
 pub loop-i-preserved-in-Nothing : goal.loop-i-preserved-in-Nothing
@@ -410,7 +381,9 @@ pub loop-i-smaller-in-Barred : goal.loop-i-smaller-in-Barred
 loop-i-smaller-in-Barred c = shorter c.before.before.before.before.before.before.before
 
 pub bounds-run-c : goal.bounds-run-c
-bounds-run-c c = begin_at c.before
+bounds-run-c c =
+    let begin_at : c.in-Begins.c < most_clients = begins_place (here c.before.before) c.in-Begins.is in
+    begin_at
 
 pub refuse-o-requires-in-Not : goal.refuse-o-requires-in-Not
 refuse-o-requires-in-Not c = has_room c.before.before.before.before.before.before.before.before.before
@@ -419,7 +392,9 @@ pub loop-i-smaller-in-Not : goal.loop-i-smaller-in-Not
 loop-i-smaller-in-Not c = shorter c.before.before.before.before.before.before.before.before.before.before.before.before
 
 pub bounds-run-c-in-To : goal.bounds-run-c-in-To
-bounds-run-c-in-To c = begin_at c.before.before.before.before.before.before
+bounds-run-c-in-To c =
+    let begin_at : c.in-Begins.c < most_clients = begins_place (here c.before.before) c.in-Begins.is in
+    begin_at
 
 pub overflow_add-run : goal.overflow_add-run
 overflow_add-run c = omega (arith, most c.before.before.before.before.before.before.before.before)
@@ -431,7 +406,9 @@ pub loop-i-smaller-in-To : goal.loop-i-smaller-in-To
 loop-i-smaller-in-To c = shorter c.before.before.before.before.before.before.before.before.before.before.before.before
 
 pub bounds-run-c-in-Leaves : goal.bounds-run-c-in-Leaves
-bounds-run-c-in-Leaves c = leave_at c.before
+bounds-run-c-in-Leaves c =
+    let leave_at : c.in-Leaves.c < most_clients = leaves_place (here c.before.before) c.in-Leaves.is in
+    leave_at
 
 pub refuse-o-requires-in-Not-quits : goal.refuse-o-requires-in-Not-quits
 refuse-o-requires-in-Not-quits c = has_room c.before.before.before.before.before.before.before.before.before
@@ -440,7 +417,9 @@ pub loop-i-smaller-in-Not-quits : goal.loop-i-smaller-in-Not-quits
 loop-i-smaller-in-Not-quits c = shorter c.before.before.before.before.before.before.before.before.before.before.before.before
 
 pub bounds-run-c-in-To-quits : goal.bounds-run-c-in-To-quits
-bounds-run-c-in-To-quits c = leave_at c.before.before.before.before.before.before
+bounds-run-c-in-To-quits c =
+    let leave_at : c.in-Leaves.c < most_clients = leaves_place (here c.before.before) c.in-Leaves.is in
+    leave_at
 
 pub overflow_add-run-in-To-quits : goal.overflow_add-run-in-To-quits
 overflow_add-run-in-To-quits c = omega (arith, most c.before.before.before.before.before.before.before.before)
@@ -452,7 +431,9 @@ pub loop-i-smaller-in-To-quits : goal.loop-i-smaller-in-To-quits
 loop-i-smaller-in-To-quits c = shorter c.before.before.before.before.before.before.before.before.before.before.before.before
 
 pub bounds-run-c-in-Sends : goal.bounds-run-c-in-Sends
-bounds-run-c-in-Sends c = send_at c.before
+bounds-run-c-in-Sends c =
+    let send_at : c.in-Sends.c < most_clients = sends_place (here c.before.before) c.in-Sends.is in
+    send_at
 
 pub refuse-o-requires-in-Not-asks : goal.refuse-o-requires-in-Not-asks
 refuse-o-requires-in-Not-asks c = has_room c.before.before.before.before.before.before.before.before.before
@@ -494,7 +475,9 @@ pub loop-i-smaller-else-j-lt-MOST_SLOTS : goal.loop-i-smaller-else-j-lt-MOST_SLO
 loop-i-smaller-else-j-lt-MOST_SLOTS c = shorter c.before.before.before.before.before.before.before.before.before.before.before.before.before.before.before
 
 pub bounds-run-j-in-Delivers : goal.bounds-run-j-in-Delivers
-bounds-run-j-in-Delivers c = deliver_at c.before
+bounds-run-j-in-Delivers c =
+    let deliver_at : c.in-Delivers.j < most_slots = delivers_place (here c.before.before) c.in-Delivers.is in
+    deliver_at
 
 pub refuse-o-requires-in-Empty : goal.refuse-o-requires-in-Empty
 refuse-o-requires-in-Empty c = has_room c.before.before.before.before.before.before.before
@@ -503,16 +486,22 @@ pub loop-i-smaller-in-Empty : goal.loop-i-smaller-in-Empty
 loop-i-smaller-in-Empty c = shorter c.before.before.before.before.before.before.before.before.before.before
 
 pub bounds-run-m : goal.bounds-run-m
-bounds-run-m c = cabinet_place c.before.before
+bounds-run-m c =
+    let cabinet_place : c.in-Request.m.cabinet < most_cabinets = (request_places (held c.before.before.before.before.before.before) (sound c.before.before.before.before.before.before) _ _ c.in-Request.is).1 in
+    cabinet_place
 
 pub overflow_add-run-in-Request : goal.overflow_add-run-in-Request
 overflow_add-run-in-Request c = omega (arith, most c.before.before.before.before.before.before.before.before.before.before)
 
 pub bounds-run-j-in-Silent : goal.bounds-run-j-in-Silent
-bounds-run-j-in-Silent c = deliver_at c.before.before.before.before.before.before.before.before.before.before.before
+bounds-run-j-in-Silent c =
+    let deliver_at : c.in-Delivers.j < most_slots = delivers_place (here c.before.before) c.in-Delivers.is in
+    deliver_at
 
 pub overflow_add-j-in-Silent : goal.overflow_add-j-in-Silent
-overflow_add-j-in-Silent c = omega (arith, deliver_at c.before.before.before.before.before.before.before.before.before.before.before.before)
+overflow_add-j-in-Silent c =
+    let deliver_at : c.in-Delivers.j < most_slots = delivers_place (here c.before.before) c.in-Delivers.is in
+    omega (arith, deliver_at)
 
 pub put_unanswered-o-requires : goal.put_unanswered-o-requires
 put_unanswered-o-requires c = has_room c.before.before.before.before.before.before.before.before.before.before.before.before.before.before
@@ -521,10 +510,14 @@ pub loop-i-smaller-in-Silent : goal.loop-i-smaller-in-Silent
 loop-i-smaller-in-Silent c = shorter c.before.before.before.before.before.before.before.before.before.before.before.before.before.before.before.before.before
 
 pub bounds-run-j-in-Says : goal.bounds-run-j-in-Says
-bounds-run-j-in-Says c = deliver_at c.before.before.before.before.before.before.before.before.before.before.before.before.before
+bounds-run-j-in-Says c =
+    let deliver_at : c.in-Delivers.j < most_slots = delivers_place (here c.before.before) c.in-Delivers.is in
+    deliver_at
 
 pub overflow_add-j-in-Says : goal.overflow_add-j-in-Says
-overflow_add-j-in-Says c = omega (arith, deliver_at c.before.before.before.before.before.before.before.before.before.before.before.before.before.before)
+overflow_add-j-in-Says c =
+    let deliver_at : c.in-Delivers.j < most_slots = delivers_place (here c.before.before) c.in-Delivers.is in
+    omega (arith, deliver_at)
 
 pub put_answered-o-requires : goal.put_answered-o-requires
 put_answered-o-requires c = has_room c.before.before.before.before.before.before.before.before.before.before.before.before.before.before.before.before
@@ -533,25 +526,37 @@ pub loop-i-smaller-in-Says : goal.loop-i-smaller-in-Says
 loop-i-smaller-in-Says c = shorter c.before.before.before.before.before.before.before.before.before.before.before.before.before.before.before.before.before.before.before
 
 pub bounds-run-j-in-Weighs : goal.bounds-run-j-in-Weighs
-bounds-run-j-in-Weighs c = deliver_at c.before.before.before.before.before.before.before.before.before.before.before.before.before
+bounds-run-j-in-Weighs c =
+    let deliver_at : c.in-Delivers.j < most_slots = delivers_place (here c.before.before) c.in-Delivers.is in
+    deliver_at
 
 pub overflow_add-j-in-Weighs : goal.overflow_add-j-in-Weighs
-overflow_add-j-in-Weighs c = omega (arith, deliver_at c.before.before.before.before.before.before.before.before.before.before.before.before.before.before)
+overflow_add-j-in-Weighs c =
+    let deliver_at : c.in-Delivers.j < most_slots = delivers_place (here c.before.before) c.in-Delivers.is in
+    omega (arith, deliver_at)
 
 pub put_answered-o-requires-in-Weighs : goal.put_answered-o-requires-in-Weighs
 put_answered-o-requires-in-Weighs c = has_room c.before.before.before.before.before.before.before.before.before.before.before.before.before.before.before.before
 
 pub bounds-run-m-then-takes : goal.bounds-run-m-then-takes
-bounds-run-m-then-takes c = cabinet_place c.before.before.before.before.before.before.before.before.before.before.before.before.before.before.before.before.before
+bounds-run-m-then-takes c =
+    let cabinet_place : c.in-Request.m.cabinet < most_cabinets = (request_places (held c.before.before.before.before.before.before) (sound c.before.before.before.before.before.before) _ _ c.in-Request.is).1 in
+    cabinet_place
 
 pub overflow_cast-m : goal.overflow_cast-m
-overflow_cast-m c = omega (arith, cabinet_place c.before.before.before.before.before.before.before.before.before.before.before.before.before.before.before.before.before.before.before.before.before.before)
+overflow_cast-m c =
+    let cabinet_place : c.in-Request.m.cabinet < most_cabinets = (request_places (held c.before.before.before.before.before.before) (sound c.before.before.before.before.before.before) _ _ c.in-Request.is).1 in
+    omega (arith, cabinet_place)
 
 pub offset_bounds-run-m-then-takes-2 : goal.offset_bounds-run-m-then-takes-2
-offset_bounds-run-m-then-takes-2 c = omega (arith, cabinet_place c.before.before.before.before.before.before.before.before.before.before.before.before.before.before.before.before.before.before.before.before.before.before)
+offset_bounds-run-m-then-takes-2 c =
+    let cabinet_place : c.in-Request.m.cabinet < most_cabinets = (request_places (held c.before.before.before.before.before.before) (sound c.before.before.before.before.before.before) _ _ c.in-Request.is).1 in
+    omega (arith, cabinet_place)
 
 pub bounds-run-m-then-takes-2 : goal.bounds-run-m-then-takes-2
-bounds-run-m-then-takes-2 c = cabinet_place c.before.before.before.before.before.before.before.before.before.before.before.before.before.before.before.before.before.before.before.before.before.before
+bounds-run-m-then-takes-2 c =
+    let cabinet_place : c.in-Request.m.cabinet < most_cabinets = (request_places (held c.before.before.before.before.before.before) (sound c.before.before.before.before.before.before) _ _ c.in-Request.is).1 in
+    cabinet_place
 
 pub loop-i-smaller-then-takes : goal.loop-i-smaller-then-takes
 loop-i-smaller-then-takes c = shorter c.before.before.before.before.before.before.before.before.before.before.before.before.before.before.before.before.before.before.before.before.before.before.before.before.before.before.before.before
@@ -560,16 +565,22 @@ pub loop-i-smaller-else-takes : goal.loop-i-smaller-else-takes
 loop-i-smaller-else-takes c = shorter c.before.before.before.before.before.before.before.before.before.before.before.before.before.before.before.before.before.before.before.before.before.before
 
 pub bounds-run-m-in-Reply : goal.bounds-run-m-in-Reply
-bounds-run-m-in-Reply c = client_place c.before.before
+bounds-run-m-in-Reply c =
+    let client_place : c.in-Reply.m.client < most_clients = (reply_places (held c.before.before.before.before.before.before) (sound c.before.before.before.before.before.before) _ _ c.in-Reply.is).0 in
+    client_place
 
 pub bounds-run-j-in-Reply : goal.bounds-run-j-in-Reply
-bounds-run-j-in-Reply c = deliver_at c.before.before.before.before.before.before.before
+bounds-run-j-in-Reply c =
+    let deliver_at : c.in-Delivers.j < most_slots = delivers_place (here c.before.before) c.in-Delivers.is in
+    deliver_at
 
 pub overflow_add-run-in-Reply : goal.overflow_add-run-in-Reply
 overflow_add-run-in-Reply c = omega (arith, most c.before.before.before.before.before.before.before.before.before)
 
 pub overflow_add-j-in-Nothing : goal.overflow_add-j-in-Nothing
-overflow_add-j-in-Nothing c = omega (arith, deliver_at c.before.before.before.before.before.before.before.before.before.before.before)
+overflow_add-j-in-Nothing c =
+    let deliver_at : c.in-Delivers.j < most_slots = delivers_place (here c.before.before) c.in-Delivers.is in
+    omega (arith, deliver_at)
 
 pub put_discarded-o-requires : goal.put_discarded-o-requires
 put_discarded-o-requires c = has_room c.before.before.before.before.before.before.before.before.before.before.before.before.before
@@ -578,10 +589,14 @@ pub loop-i-smaller-in-Nothing : goal.loop-i-smaller-in-Nothing
 loop-i-smaller-in-Nothing c = shorter c.before.before.before.before.before.before.before.before.before.before.before.before.before.before.before.before
 
 pub bounds-run-m-in-Counts : goal.bounds-run-m-in-Counts
-bounds-run-m-in-Counts c = client_place c.before.before.before.before.before.before.before.before
+bounds-run-m-in-Counts c =
+    let client_place : c.in-Reply.m.client < most_clients = (reply_places (held c.before.before.before.before.before.before) (sound c.before.before.before.before.before.before) _ _ c.in-Reply.is).0 in
+    client_place
 
 pub overflow_add-j-in-Counts : goal.overflow_add-j-in-Counts
-overflow_add-j-in-Counts c = omega (arith, deliver_at c.before.before.before.before.before.before.before.before.before.before.before.before.before)
+overflow_add-j-in-Counts c =
+    let deliver_at : c.in-Delivers.j < most_slots = delivers_place (here c.before.before) c.in-Delivers.is in
+    omega (arith, deliver_at)
 
 pub put_counted-o-requires : goal.put_counted-o-requires
 put_counted-o-requires c = has_room c.before.before.before.before.before.before.before.before.before.before.before.before.before.before.before
@@ -590,10 +605,14 @@ pub loop-i-smaller-in-Counts : goal.loop-i-smaller-in-Counts
 loop-i-smaller-in-Counts c = shorter c.before.before.before.before.before.before.before.before.before.before.before.before.before.before.before.before.before.before
 
 pub bounds-run-m-in-Ends : goal.bounds-run-m-in-Ends
-bounds-run-m-in-Ends c = client_place c.before.before.before.before.before.before.before.before
+bounds-run-m-in-Ends c =
+    let client_place : c.in-Reply.m.client < most_clients = (reply_places (held c.before.before.before.before.before.before) (sound c.before.before.before.before.before.before) _ _ c.in-Reply.is).0 in
+    client_place
 
 pub overflow_add-j-in-Ends : goal.overflow_add-j-in-Ends
-overflow_add-j-in-Ends c = omega (arith, deliver_at c.before.before.before.before.before.before.before.before.before.before.before.before.before)
+overflow_add-j-in-Ends c =
+    let deliver_at : c.in-Delivers.j < most_slots = delivers_place (here c.before.before) c.in-Delivers.is in
+    omega (arith, deliver_at)
 
 pub put_ended-o-requires : goal.put_ended-o-requires
 put_ended-o-requires c = has_room c.before.before.before.before.before.before.before.before.before.before.before.before.before.before.before
@@ -602,7 +621,9 @@ pub loop-i-smaller-in-Ends : goal.loop-i-smaller-in-Ends
 loop-i-smaller-in-Ends c = shorter c.before.before.before.before.before.before.before.before.before.before.before.before.before.before.before.before.before.before
 
 pub bounds-run-j-in-Loses : goal.bounds-run-j-in-Loses
-bounds-run-j-in-Loses c = lose_at c.before
+bounds-run-j-in-Loses c =
+    let lose_at : c.in-Loses.j < most_slots = loses_place (here c.before.before) c.in-Loses.is in
+    lose_at
 
 pub refuse-o-requires-then-is_empty-2 : goal.refuse-o-requires-then-is_empty-2
 refuse-o-requires-then-is_empty-2 c = has_room c.before.before.before.before.before.before.before
@@ -611,13 +632,17 @@ pub loop-i-smaller-then-is_empty-2 : goal.loop-i-smaller-then-is_empty-2
 loop-i-smaller-then-is_empty-2 c = shorter c.before.before.before.before.before.before.before.before.before.before
 
 pub bounds-run-j-else-is_empty-2 : goal.bounds-run-j-else-is_empty-2
-bounds-run-j-else-is_empty-2 c = lose_at c.before.before.before.before
+bounds-run-j-else-is_empty-2 c =
+    let lose_at : c.in-Loses.j < most_slots = loses_place (here c.before.before) c.in-Loses.is in
+    lose_at
 
 pub overflow_add-run-else-is_empty-2 : goal.overflow_add-run-else-is_empty-2
 overflow_add-run-else-is_empty-2 c = omega (arith, most c.before.before.before.before.before.before)
 
 pub overflow_add-j-else-is_empty-2 : goal.overflow_add-j-else-is_empty-2
-overflow_add-j-else-is_empty-2 c = omega (arith, lose_at c.before.before.before.before.before)
+overflow_add-j-else-is_empty-2 c =
+    let lose_at : c.in-Loses.j < most_slots = loses_place (here c.before.before) c.in-Loses.is in
+    omega (arith, lose_at)
 
 pub accept-o-requires-else-is_empty-2 : goal.accept-o-requires-else-is_empty-2
 accept-o-requires-else-is_empty-2 c = has_room c.before.before.before.before.before.before.before
@@ -626,7 +651,9 @@ pub loop-i-smaller-else-is_empty-2 : goal.loop-i-smaller-else-is_empty-2
 loop-i-smaller-else-is_empty-2 c = shorter c.before.before.before.before.before.before.before.before.before.before
 
 pub bounds-run-p : goal.bounds-run-p
-bounds-run-p c = stop_at c.before
+bounds-run-p c =
+    let stop_at : c.in-Stops.p < most_cabinets = stops_place (here c.before.before) c.in-Stops.is in
+    stop_at
 
 pub refuse-o-requires-then-is_down : goal.refuse-o-requires-then-is_down
 refuse-o-requires-then-is_down c = has_room c.before.before.before.before.before.before.before
@@ -635,7 +662,9 @@ pub loop-i-smaller-then-is_down : goal.loop-i-smaller-then-is_down
 loop-i-smaller-then-is_down c = shorter c.before.before.before.before.before.before.before.before.before.before
 
 pub bounds-run-p-else-is_down : goal.bounds-run-p-else-is_down
-bounds-run-p-else-is_down c = stop_at c.before.before.before.before.before
+bounds-run-p-else-is_down c =
+    let stop_at : c.in-Stops.p < most_cabinets = stops_place (here c.before.before) c.in-Stops.is in
+    stop_at
 
 pub overflow_add-run-else-is_down : goal.overflow_add-run-else-is_down
 overflow_add-run-else-is_down c = omega (arith, most c.before.before.before.before.before.before.before)
@@ -647,10 +676,14 @@ pub loop-i-smaller-else-is_down : goal.loop-i-smaller-else-is_down
 loop-i-smaller-else-is_down c = shorter c.before.before.before.before.before.before.before.before.before.before.before
 
 pub bounds-run-p-in-Restarts : goal.bounds-run-p-in-Restarts
-bounds-run-p-in-Restarts c = restart_at c.before
+bounds-run-p-in-Restarts c =
+    let restart_at : c.in-Restarts.p < most_cabinets = restarts_place (here c.before.before) c.in-Restarts.is in
+    restart_at
 
 pub bounds-run-p-in-Restarts-2 : goal.bounds-run-p-in-Restarts-2
-bounds-run-p-in-Restarts-2 c = restart_at c.before.before.before.before.before
+bounds-run-p-in-Restarts-2 c =
+    let restart_at : c.in-Restarts.p < most_cabinets = restarts_place (here c.before.before) c.in-Restarts.is in
+    restart_at
 
 pub overflow_add-run-in-Restarts : goal.overflow_add-run-in-Restarts
 overflow_add-run-in-Restarts c = omega (arith, most c.before.before.before.before.before.before.before)
@@ -662,10 +695,14 @@ pub loop-i-smaller-in-Restarts : goal.loop-i-smaller-in-Restarts
 loop-i-smaller-in-Restarts c = shorter c.before.before.before.before.before.before.before.before.before.before.before
 
 pub bounds-run-p-in-RollsBack : goal.bounds-run-p-in-RollsBack
-bounds-run-p-in-RollsBack c = roll_at c.before
+bounds-run-p-in-RollsBack c =
+    let roll_at : c.in-RollsBack.p < most_cabinets = rolls_place (here c.before.before) c.in-RollsBack.is in
+    roll_at
 
 pub bounds-run-p-then-may_roll : goal.bounds-run-p-then-may_roll
-bounds-run-p-then-may_roll c = roll_at c.before.before.before.before.before.before.before.before.before.before.before.before.before.before
+bounds-run-p-then-may_roll c =
+    let roll_at : c.in-RollsBack.p < most_cabinets = rolls_place (here c.before.before) c.in-RollsBack.is in
+    roll_at
 
 pub overflow_add-run-then-may_roll : goal.overflow_add-run-then-may_roll
 overflow_add-run-then-may_roll c = omega (arith, most c.before.before.before.before.before.before.before.before.before.before.before.before.before.before.before.before)
