@@ -39,23 +39,22 @@ Due h = at_step h.lead-led.result.kept.phase h.lead-led.result.kept.len ≡ true
 sound : (h : Here) → Due h → undamaged h.lead-led.result.run ≡ true
 sound h due =
     let whole =
-    whole_at (before h) _ (take h.lead-led.result.used h.args.s.now) h.requires.s_bound.1 h.lead-led.ensures.run_after in
+    whole_at (before h) _ (take h.lead-led.result.used h.args.s.now) h.requires.whole h.lead-led.ensures.run_after in
     step_sound h.lead-led.result.kept.phase h.lead-led.result.kept.len h.lead-led.result.run due whole.0
 
 -- the rows that are left have room and numbers
 fits : (h : Here) → h.lead-led.result.kept.at + room * breaks (rest h) ≤ length h.args.out.now
 fits h =
     let most = rest_most h.args.s.now h.lead-led.result.used in
-    omega (arith, most, h.lead-led.ensures.out_after.1.1.0.0, h.lead-led.ensures.out_after.1.1.1.0, h.requires.room_in_bounds)
+    omega (arith, most, h.lead-led.ensures.at_bound.0, h.lead-led.ensures.used_in_bounds.0, h.requires.room_in_bounds)
 
 counted : (h : Here) → h.lead-led.result.kept.row + breaks (rest h) < 2 ^ 64
 counted h =
     let most = rest_most h.args.s.now h.lead-led.result.used in
-    omega (arith, most, h.lead-led.ensures.out_after.1.1.0.1, h.lead-led.ensures.out_after.1.1.1.0, h.requires.s_bound.0)
+    omega (arith, most, h.lead-led.ensures.at_bound.1, h.lead-led.ensures.used_in_bounds.0, h.requires.s_bound)
 
 pub steps-went-requires : goal.steps-went-requires
-steps-went-requires c = let both = (omega (arith, fits c.before.before, c.out-1.given), (counted c.before.before, sound c.before.before (sym c.at_step.ensures ∙ c.if-at_step.true))) in
-    record { s_in_bounds = both.0; s_bound = both.1; run_value = both.2 }
+steps-went-requires c = record { s_in_bounds = omega (arith, fits c.before.before, c.out-1.given); s_bound = counted c.before.before; run_value = sound c.before.before (sym c.at_step.ensures ∙ c.if-at_step.true) }
 
 pub hold-len-requires : goal.hold-len-requires
 hold-len-requires c =
@@ -74,37 +73,14 @@ returns-then-at_step c =
     c.args.out.now _ _ c.args.kept.at c.hold-len.result (rest c.before.before.before.before.before.before.before.before.before) _
     (part_all c.args.s.now c.lead-led.result.used)
     (part_all (rest c.before.before.before.before.before.before.before.before.before) c.steps-went.result.used)
-    v.0 (v.1.0, v.1.1.0) due (sound c.before.before.before.before.before.before.before.before.before due) t c.hold-len.ensures (omega (arith, c.requires.room_in_bounds)) in
-    let both = (
-      q.0,
-      (
-        q.1.0,
-        (
-          q.1.1,
-          (
-            (omega (arith, most, v.1.1.1.0.0, v.1.1.1.1.0, t.room), omega (arith, most, v.1.1.1.0.1, v.1.1.1.1.0, t.rows)),
-            whole_at (before c.before.before.before.before.before.before.before.before.before) _ c.args.s.now c.requires.s_bound.1 q.0,
-          ),
-        ),
-      ),
-    ) in
-    record { run_after = both.0; out_after = both.1; at_value = both.2; at_bound = both.3; whole_2 = both.4 }
+    v.run_after (v.out_after, v.at_value) due (sound c.before.before.before.before.before.before.before.before.before due) t c.hold-len.ensures (omega (arith, c.requires.room_in_bounds)) in
+    record { run_after = q.0; out_after = q.1.0; at_value = q.1.1; at_bound = (omega (arith, most, v.at_bound.0, v.used_in_bounds.0, t.room), omega (arith, most, v.at_bound.1, v.used_in_bounds.0, t.rows)); whole_2 = whole_at (before c.before.before.before.before.before.before.before.before.before) _ c.args.s.now c.requires.whole q.0 }
 
 pub returns : goal.returns
 returns c =
     let v = c.lead-led.ensures in
     let all =
     take_all c.lead-led.result.used c.args.s.now
-    (all_led _ _ _ (sym c.at_step.ensures ∙ c.if-at_step.false) v.1.1.1.1.1) in
-    let q = rw all at v.0 in
-    let both = (
-      q,
-      (
-        rw all at v.1.0,
-        (
-          rw all at v.1.1.0,
-          ((omega (arith, v.1.1.1.0.0, v.1.1.1.1.0), omega (arith, v.1.1.1.0.1, v.1.1.1.1.0)), whole_at (before c.before) _ c.args.s.now c.requires.s_bound.1 q),
-        ),
-      ),
-    ) in
-    record { run_after = both.0; out_after = both.1; at_value = both.2; at_bound = both.3; whole_2 = both.4 }
+    (all_led _ _ _ (sym c.at_step.ensures ∙ c.if-at_step.false) v.used_in_bounds.1) in
+    let q = rw all at v.run_after in
+    record { run_after = q; out_after = rw all at v.out_after; at_value = rw all at v.at_value; at_bound = (omega (arith, v.at_bound.0, v.used_in_bounds.0), omega (arith, v.at_bound.1, v.used_in_bounds.0)); whole_2 = whole_at (before c.before) _ c.args.s.now c.requires.whole q }

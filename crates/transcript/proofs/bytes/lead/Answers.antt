@@ -14,15 +14,14 @@ loop-i-init c =
     let args = c.args in
     let pre = c.requires in
     let q = feed_none (mach_of args.kept args.line.now args.run) args.out.now args.kept.at in
-    (omega arith, refl, omega arith, omega arith, q.0, q.1.0, q.1.1, pre.0, pre.1.0)
+    (omega arith, refl, omega arith, omega arith, q.0, q.1.0, q.1.1, pre.room_in_bounds, pre.s_bound)
 
 pub end_line-f-requires : goal.end_line-f-requires
 end_line-f-requires c =
     let args = c.args in
     let loop = c.loop-i in
     let pre = c.requires in
-    let both = (omega arith, (omega arith, whole_at (mach_of args.kept args.line.now args.run) (mach_of loop.k loop.line loop.held) (take loop.i args.s.now) pre.1.1 loop.invariant.4)) in
-    record { room_in_bounds = both.0; row_bound = both.1; whole = both.2 }
+    record { room_in_bounds = omega arith; row_bound = omega arith; whole = whole_at (mach_of args.kept args.line.now args.run) (mach_of loop.k loop.line loop.held) (take loop.i args.s.now) pre.whole loop.invariant.4 }
 
 pub loop-i-preserved : goal.loop-i-preserved
 loop-i-preserved c =
@@ -36,16 +35,14 @@ loop-i-preserved c =
 
 pub returns-after-loop-i : goal.returns-after-loop-i
 returns-after-loop-i c = let v = c.loop-i.invariant in
-    let both = (v.4, (v.5, (v.6, ((omega arith, omega arith), (omega arith, λ h. absurd (omega arith)))))) in
-    record { run_after = both.0; out_after = both.1; at_value = both.2; at_bound = both.3; used_in_bounds = both.4 }
+    record { run_after = v.4; out_after = v.5; at_value = v.6; at_bound = (omega arith, omega arith); used_in_bounds = (omega arith, λ h. absurd (omega arith)) }
 
 pub returns-then-at_step : goal.returns-then-at_step
 returns-then-at_step c =
     let loop = c.loop-i in
     let at-step = c.at_step in
     let v = loop.invariant in
-    let both = (v.4, (v.5, (v.6, ((omega arith, omega arith), (omega arith, λ h. sym at-step.ensures ∙ c.if-at_step.true))))) in
-    record { run_after = both.0; out_after = both.1; at_value = both.2; at_bound = both.3; used_in_bounds = both.4 }
+    record { run_after = v.4; out_after = v.5; at_value = v.6; at_bound = (omega arith, omega arith); used_in_bounds = (omega arith, λ h. sym at-step.ensures ∙ c.if-at_step.true) }
 
 pub bounds-s-i : goal.bounds-s-i
 bounds-s-i c = omega arith

@@ -26,8 +26,7 @@ last_step-requires c =
     let says_running = c.is_running in
     let if3 = c.if-is_running in
     let pre = c.requires in
-    let both = ((if2.true, if1.false, sym says_running.ensures ∙ if3.true), (omega arith, (omega arith, pre.1.1))) in
-    record { len_nonzero = both.0; room_in_bounds = both.1; row_bound = both.2; whole = both.3 }
+    record { len_nonzero = (if2.true, if1.false, sym says_running.ensures ∙ if3.true); room_in_bounds = omega arith; row_bound = omega arith; whole = pre.whole }
 
 pub returns-then-is_running : goal.returns-then-is_running
 returns-then-is_running c = let both = c.last_step.ensures in
@@ -40,8 +39,7 @@ pub act-f-requires-then-len-gt0 : goal.act-f-requires-then-len-gt0
 act-f-requires-then-len-gt0 c =
     let says_running = c.is_running in
     let if3 = c.if-is_running in
-    let both = (λ e. sym (sym e ∙ sym says_running.ensures ∙ if3.false), (omega arith, omega arith)) in
-    record { over_value = both.0; room_in_bounds = both.1; row_bound = both.2 }
+    record { over_value = λ e. sym (sym e ∙ sym says_running.ensures ∙ if3.false); room_in_bounds = omega arith; row_bound = omega arith }
 
 pub returns-then-len-gt0 : goal.returns-then-len-gt0
 returns-then-len-gt0 c =
@@ -59,8 +57,7 @@ pub enum_told-1 : goal.enum_told-1
 enum_told-1 c = search rules
 
 pub act-f-requires-in-Header : goal.act-f-requires-in-Header
-act-f-requires-in-Header c = let both = (λ e. absurd (let z : ◌≡◌ {A = ℕ} 0 1 = cc (sym e ∙ ap is_running c.in-Header.is) in omega arith), (omega arith, omega arith)) in
-    record { over_value = both.0; room_in_bounds = both.1; row_bound = both.2 }
+act-f-requires-in-Header c = record { over_value = λ e. absurd (let z : ◌≡◌ {A = ℕ} 0 1 = cc (sym e ∙ ap is_running c.in-Header.is) in omega arith); room_in_bounds = omega arith; row_bound = omega arith }
 
 pub returns-in-Header : goal.returns-in-Header
 returns-in-Header c =
