@@ -3,11 +3,11 @@ use Rattle.transcript.specs.Machine.{mach_of}
 use Rattle.transcript.proofs.WholeLaws.{whole_at}
 use Rattle.transcript.proofs.MachineLaws.{going_lf, going_in, feed_none}
 use mathlib.Core.Path.{refl, sym, ◌∙◌}
-use mathlib.Core.Logic.{⊎_elim}
 use lib.ListN.{take}
 use Prim.Native.Nat.{◌-◌}
 use native.Mathlib.Omega.{arith}
 use Rattle.transcript.proofs.bytes.lead.Goals as goal
+use Rattle.transcript.proofs.bytes.lead.Goals.{then-s-i-eq10, else-s-i-eq10}
 
 pub loop-i-init : goal.loop-i-init
 loop-i-init c =
@@ -27,11 +27,15 @@ pub loop-i-preserved : goal.loop-i-preserved
 loop-i-preserved c =
     let args = c.args in
     let loop = c.loop-i in
-    let loop-test = c.loop-i-test in
-    ⊎_elim
-    (λ w. rw (w.8, w.9, w.10, w.11) (going_lf args.s.now args.out.now args.kept (mach_of args.kept args.line.now args.run) loop.i loop.line loop.out loop.k loop.held _ _ w.3.result loop.invariant loop-test.true w.0.true w.3.ensures))
-    (λ w. rw (w.4, w.5, w.6, w.7) (going_in args.s.now args.out.now args.kept (mach_of args.kept args.line.now args.run) loop.i loop.line loop.out loop.k loop.held w.3.result _ loop.invariant loop-test.true w.0.false w.3.ensures))
-    c.if-s-i-eq10.branch
+    let before = mach_of args.kept args.line.now args.run in
+    elim c.if-s-i-eq10.branch [
+      | then-s-i-eq10 w ↦
+          rw (w.line-is, w.out-is, w.k-is, w.held-is)
+          (going_lf args.s.now args.out.now args.kept before loop.i loop.line loop.out loop.k loop.held _ _ w.end_line-f.result loop.invariant c.loop-i-test.true w.if-s-i-eq10.true w.end_line-f.ensures)
+      | else-s-i-eq10 w ↦
+          rw (w.line-is, w.out-is, w.k-is, w.held-is)
+          (going_in args.s.now args.out.now args.kept before loop.i loop.line loop.out loop.k loop.held w.push-n.result _ loop.invariant c.loop-i-test.true w.if-s-i-eq10.false w.push-n.ensures)
+    ]
 
 pub returns-after-loop-i : goal.returns-after-loop-i
 returns-after-loop-i c = let v = c.loop-i.invariant in

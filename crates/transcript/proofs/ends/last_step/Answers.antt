@@ -6,7 +6,7 @@ use native.Mathlib.Omega.{arith}
 use Rattle.transcript.proofs.ends.last_step.Goals as goal
 
 pub slice_bounds-steps-end : goal.slice_bounds-steps-end
-slice_bounds-steps-end c = sym (length-take-le _ _ (omega (arith, c.close-n.ensures.1, c.s-2-1.given.0)))
+slice_bounds-steps-end c = sym (length-take-le _ _ (omega (arith, c.close-n.ensures.1, c.s-2-1.given)))
 
 pub steps-went-requires : goal.steps-went-requires
 steps-went-requires c =
