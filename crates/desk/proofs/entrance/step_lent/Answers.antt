@@ -38,8 +38,8 @@ returns c =
     let met : c.met_by-met.result ≡ (made_in run table s).met = c.met_by-met.ensures ∙ ap (λ (m : Made). m.met) made in
     let at = c.met_by-met.result.at in
     let stored : c.if-at-table.table ≡ set table at c.met_by-met.result.cabinet =
-        elim c.if-at-table.branch [
-            then-at-table w ↦ w.table-is
-            | else-at-table w ↦ w.table-is ∙ sym (set_out table at c.met_by-met.result.cabinet (omega arith))
-        ] in
+    elim c.if-at-table.branch [
+      | then-at-table w ↦ w.table-is
+      | else-at-table w ↦ w.table-is ∙ sym (set_out table at c.met_by-met.result.cabinet (omega arith))
+    ] in
     (c.serve.ensures ∙ ap served_of made ∙ made_lent run table s same, stored ∙ ap (λ (m : Met). set table m.at m.cabinet) met ∙ made_stored run table s same)
