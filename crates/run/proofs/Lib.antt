@@ -4,6 +4,7 @@ pub mod Decides
 pub mod FitLaws
 pub mod FrameLaws
 pub mod GatherLaws
+mod GoLaws
 pub mod GuardLaws
 pub mod ListLaws
 pub mod MeetLaws

@@ -1,4 +1,5 @@
 pub mod Decides
+pub mod FoundLaws
 pub mod LineLaws
 pub mod TakingLaws
 pub mod TurnLaws

@@ -11,21 +11,21 @@ use Rattle.desk_lists.proofs.records.refuse.Goals as goal
 abbrev start : goal.After-fits → goal.Start
 start f = f.before.before
 
-fitting : (f : goal.After-fits) (b : Bool) → f.fits.result ≡ b → let a = f.args in fits a.count (length a.answers.now) ≡ b
-fitting f b e = sym f.fits.ensures ∙ e
-
 pub fill-requires : goal.fill-requires
 fill-requires c =
+    let fitting : (b : Bool) → c.fits.result ≡ b → let a = c.args in fits a.count (length a.answers.now) ≡ b = λ b e. sym c.fits.ensures ∙ e in
     let a = c.args in
-    (fits_says a.count (length a.answers.now) (fitting c.before.before true c.if-fits.true)).1
+    (fits_says a.count (length a.answers.now) (fitting true c.if-fits.true)).1
 
 pub returns-then-fits : goal.returns-then-fits
 returns-then-fits c =
+    let fitting : (b : Bool) → c.fits.result ≡ b → let a = c.args in fits a.count (length a.answers.now) ≡ b = λ b e. sym c.fits.ensures ∙ e in
     let a = c.args in
-    wrong_all a.run a.count a.answers.now _ (fitting c.before.before.before.before.before true c.if-fits.true) c.fill.ensures
+    wrong_all a.run a.count a.answers.now _ (fitting true c.if-fits.true) c.fill.ensures
 
 pub returns : goal.returns
 unfolding untaken_of
 returns c =
+    let fitting : (b : Bool) → c.fits.result ≡ b → let a = c.args in fits a.count (length a.answers.now) ≡ b = λ b e. sym c.fits.ensures ∙ e in
     let a = c.args in
-    wrong_untaken a.run a.count a.answers.now (fitting c.before false c.if-fits.false)
+    wrong_untaken a.run a.count a.answers.now (fitting false c.if-fits.false)

@@ -9,4 +9,4 @@ unfolding eight
 returns c =
     let put_four = c.put_four-i in
     let put-four2 = c.put_four in
-    (after _ _ _ put_four.ensures.0 put-four2.ensures.0 (omega arith), omega arith)
+    record { wrote = after _ _ _ put_four.ensures.wrote put-four2.ensures.wrote (omega arith); value = omega arith }

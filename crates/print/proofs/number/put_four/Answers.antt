@@ -9,4 +9,4 @@ unfolding four
 returns c =
     let put-pair = c.put_pair-i in
     let put-pair2 = c.put_pair in
-    (after _ _ _ put-pair.ensures put-pair2.ensures (omega arith), omega arith)
+    record { wrote = after _ _ _ put-pair.ensures put-pair2.ensures (omega arith); value = omega arith }

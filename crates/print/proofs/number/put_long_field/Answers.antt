@@ -7,4 +7,4 @@ pub returns : goal.returns
 returns c =
     let put_byte = c.put_byte-i in
     let put-number = c.put_number in
-    (after _ _ _ put_byte.ensures put-number.ensures.0 (omega arith), omega arith)
+    record { wrote = after _ _ _ put_byte.ensures put-number.ensures.wrote (omega arith); upper_bound = omega arith }

@@ -9,4 +9,4 @@ returns c =
     let if1 = c.if-n-lt100000000 in
     let put-up-to-twelve = c.put_up_to_twelve-i in
     let put-eight = c.put_eight in
-    (same _ _ (decimal_then_eight _ if1.false (omega arith)) (after _ _ _ put-up-to-twelve.ensures.0 put-eight.ensures.0 (omega arith)), omega arith)
+    record { wrote = same _ _ (decimal_then_eight _ if1.false (omega arith)) (after _ _ _ put-up-to-twelve.ensures.wrote put-eight.ensures.wrote (omega arith)); upper_bound = omega arith }

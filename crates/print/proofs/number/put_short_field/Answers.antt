@@ -7,4 +7,4 @@ pub returns : goal.returns
 returns c =
     let put_byte = c.put_byte-i in
     let put-up-to-three = c.put_up_to_three in
-    (after _ _ _ put_byte.ensures put-up-to-three.ensures.0 (omega arith), omega arith)
+    record { wrote = after _ _ _ put_byte.ensures put-up-to-three.ensures.wrote (omega arith); upper_bound = omega arith }

@@ -9,4 +9,4 @@ returns c =
     let if1 = c.if-n-lt10000 in
     let put-up-to-four2 = c.put_up_to_four-i in
     let put_four = c.put_four in
-    (same _ _ (decimal_then_four _ if1.false (omega arith)) (after _ _ _ put-up-to-four2.ensures.0 put_four.ensures.0 (omega arith)), omega arith)
+    record { wrote = same _ _ (decimal_then_four _ if1.false (omega arith)) (after _ _ _ put-up-to-four2.ensures.wrote put_four.ensures.wrote (omega arith)); upper_bound = omega arith }

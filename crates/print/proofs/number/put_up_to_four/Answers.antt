@@ -9,4 +9,4 @@ returns c =
     let if1 = c.if-n-lt1000 in
     let pre = c.requires in
     let put_four = c.put_four in
-    (same _ _ (decimal_four _ if1.false pre.0) put_four.ensures.0, omega arith)
+    record { wrote = same _ _ (decimal_four _ if1.false pre.0) put_four.ensures.wrote; upper_bound = omega arith }

@@ -8,4 +8,4 @@ pub returns : goal.returns
 returns c =
     let put-number = c.put_number-i in
     let put_slot = c.put_slot in
-    (same _ _ (step_accepted _ _) (after _ _ _ put-number.ensures.0 put_slot.ensures.0 (omega arith)), omega arith)
+    record { wrote = same _ _ (step_accepted _ _) (after _ _ _ put-number.ensures.wrote put_slot.ensures.wrote (omega arith)); upper_bound = omega arith }

@@ -9,4 +9,4 @@ returns c =
     let put-number = c.put_number-i in
     let put-ending = c.put_ending-j in
     let put-entry = c.put_entry in
-    (same _ _ (step_accepted _ _) (after _ _ _ put-number.ensures.0 (after _ _ _ put-ending.ensures.0 put-entry.ensures.0 (omega arith)) (omega arith)), omega arith)
+    record { wrote = same _ _ (step_accepted _ _) (after _ _ _ put-number.ensures.wrote (after _ _ _ put-ending.ensures.wrote put-entry.ensures.wrote (omega arith)) (omega arith)); upper_bound = omega arith }

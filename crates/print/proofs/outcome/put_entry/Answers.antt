@@ -14,4 +14,4 @@ returns c =
     let put-long-field = c.put_long_field-j in
     let put-short-field2 = c.put_short_field-k in
     let put-reading = c.put_reading in
-    (same _ _ (three_fields (decimal a.slot) (decimal a.entry.stamp.counter) (decimal a.entry.stamp.writer) (reading_text a.entry.reading ∷ [])) (after _ _ _ (after _ _ _ (after _ _ _ put-short-field.ensures.0 put-long-field.ensures.0 (omega arith)) put-short-field2.ensures.0 (omega arith)) put-reading.ensures.0 (omega arith)), omega arith)
+    record { wrote = same _ _ (three_fields (decimal a.slot) (decimal a.entry.stamp.counter) (decimal a.entry.stamp.writer) (reading_text a.entry.reading ∷ [])) (after _ _ _ (after _ _ _ (after _ _ _ put-short-field.ensures.wrote put-long-field.ensures.wrote (omega arith)) put-short-field2.ensures.wrote (omega arith)) put-reading.ensures.wrote (omega arith)); upper_bound = omega arith }

@@ -12,4 +12,4 @@ returns c =
     let put-bytes = c.put_bytes-i in
     let put-short-field = c.put_short_field-j in
     let put-bytes2 = c.put_bytes in
-    (same _ _ (field_behind a.word.now (decimal a.slot) ([] ∷ [] ∷ [] ∷ [])) (after _ _ _ (after _ _ _ put-bytes.ensures put-short-field.ensures.0 (omega arith)) put-bytes2.ensures (omega arith)), omega arith)
+    record { wrote = same _ _ (field_behind a.word.now (decimal a.slot) ([] ∷ [] ∷ [] ∷ [])) (after _ _ _ (after _ _ _ put-bytes.ensures put-short-field.ensures.wrote (omega arith)) put-bytes2.ensures (omega arith)); upper_bound = omega arith }

@@ -5,4 +5,4 @@ use Rattle.print.proofs.row.put_head.Goals as goal
 
 pub returns : goal.returns
 unfolding head_text
-returns c = (c.put_bytes.ensures, omega arith)
+returns c = record { wrote = c.put_bytes.ensures; upper_bound = omega arith }

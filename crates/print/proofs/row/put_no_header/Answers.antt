@@ -8,4 +8,4 @@ pub returns : goal.returns
 returns c =
     let put-number = c.put_number-i in
     let put_refused = c.put_refused in
-    (same _ _ no_header_said (after _ _ _ put-number.ensures.0 put_refused.ensures.0 (omega arith)), omega arith)
+    record { wrote = same _ _ no_header_said (after _ _ _ put-number.ensures.wrote put_refused.ensures.wrote (omega arith)); upper_bound = omega arith }

@@ -12,16 +12,16 @@ pub returns-in-OutOfRange : goal.returns-in-OutOfRange
 returns-in-OutOfRange c =
     let put-number = c.put_number-i in
     let put_refused = c.put_refused in
-    (rw c.in-OutOfRange.is (same _ _ (plan_out_of_range _) (after _ _ _ put-number.ensures.0 put_refused.ensures.0 (omega arith))), omega arith)
+    record { wrote = rw c.in-OutOfRange.is (same _ _ (plan_out_of_range _) (after _ _ _ put-number.ensures.wrote put_refused.ensures.wrote (omega arith))); upper_bound = omega arith }
 
 pub returns-in-TooSmall : goal.returns-in-TooSmall
 returns-in-TooSmall c =
     let put-number = c.put_number-i in
     let put-refused2 = c.put_refused-in-TooSmall in
-    (rw c.in-TooSmall.is (same _ _ (plan_too_small _) (after _ _ _ put-number.ensures.0 put-refused2.ensures.0 (omega arith))), omega arith)
+    record { wrote = rw c.in-TooSmall.is (same _ _ (plan_too_small _) (after _ _ _ put-number.ensures.wrote put-refused2.ensures.wrote (omega arith))); upper_bound = omega arith }
 
 pub returns-in-Accepted : goal.returns-in-Accepted
 returns-in-Accepted c =
     let put-number = c.put_number-i in
     let put-profile = c.put_profile in
-    (rw c.in-Accepted.is (same _ _ (plan_accepted _ _) (after _ _ _ put-number.ensures.0 put-profile.ensures.0 (omega arith))), omega arith)
+    record { wrote = rw c.in-Accepted.is (same _ _ (plan_accepted _ _) (after _ _ _ put-number.ensures.wrote put-profile.ensures.wrote (omega arith))); upper_bound = omega arith }

@@ -3,7 +3,7 @@ use native.Mathlib.Omega.{arith}
 use Rattle.print.proofs.row.put_profile.Goals as goal
 
 pub returns-in-Forgetful : goal.returns-in-Forgetful
-returns-in-Forgetful c = (rw c.in-Forgetful.is c.put_bytes.ensures, omega arith)
+returns-in-Forgetful c = record { wrote = rw c.in-Forgetful.is c.put_bytes.ensures; upper_bound = omega arith }
 
 pub returns-in-Store : goal.returns-in-Store
-returns-in-Store c = (rw c.in-Store.is c.put_bytes-in-Store.ensures, omega arith)
+returns-in-Store c = record { wrote = rw c.in-Store.is c.put_bytes-in-Store.ensures; upper_bound = omega arith }

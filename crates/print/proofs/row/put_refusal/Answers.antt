@@ -9,4 +9,4 @@ returns c =
     let refusal-number = c.refusal_number in
     let put-number = c.put_number-i in
     let put_refused = c.put_refused in
-    (same _ _ (another_form _ _ refusal-number.ensures.0) (after _ _ _ put-number.ensures.0 put_refused.ensures.0 (omega arith)), omega arith)
+    record { wrote = same _ _ (another_form _ _ refusal-number.ensures.0) (after _ _ _ put-number.ensures.wrote put_refused.ensures.wrote (omega arith)); upper_bound = omega arith }

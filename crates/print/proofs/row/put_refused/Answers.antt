@@ -7,4 +7,4 @@ pub returns : goal.returns
 returns c =
     let put-short-field = c.put_short_field-i in
     let put-bytes = c.put_bytes in
-    (after _ _ _ put-short-field.ensures.0 put-bytes.ensures (omega arith), omega arith)
+    record { wrote = after _ _ _ put-short-field.ensures.wrote put-bytes.ensures (omega arith); upper_bound = omega arith }

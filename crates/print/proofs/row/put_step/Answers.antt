@@ -9,10 +9,10 @@ returns-in-Refused c =
     let refusal-number = c.refusal_number in
     let put-number = c.put_number-i in
     let put_refused = c.put_refused in
-    (rw c.in-Refused.is (same _ _ (step_refused _ _ _ refusal-number.ensures.0) (after _ _ _ put-number.ensures.0 put_refused.ensures.0 (omega arith))), omega arith)
+    record { wrote = rw c.in-Refused.is (same _ _ (step_refused _ _ _ refusal-number.ensures.0) (after _ _ _ put-number.ensures.wrote put_refused.ensures.wrote (omega arith))); upper_bound = omega arith }
 
 pub returns-in-Accepted : goal.returns-in-Accepted
 returns-in-Accepted c =
     let put-number = c.put_number-i in
     let put-outcome = c.put_outcome in
-    (rw c.in-Accepted.is (same _ _ (step_accepted _ _) (after _ _ _ put-number.ensures.0 put-outcome.ensures.0 (omega arith))), omega arith)
+    record { wrote = rw c.in-Accepted.is (same _ _ (step_accepted _ _) (after _ _ _ put-number.ensures.wrote put-outcome.ensures.wrote (omega arith))); upper_bound = omega arith }

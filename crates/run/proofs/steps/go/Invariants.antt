@@ -1,4 +1,5 @@
 use mathlib.Core.Bool.{cond}
+use Rattle.run.proofs.GoLaws.{Doing}
 use Rattle.run.proofs.steps.go.Given as goal
 
 abbrev pub invariant-loop-due : goal.invariant-loop-due

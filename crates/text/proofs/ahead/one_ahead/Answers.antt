@@ -11,25 +11,15 @@ use Rattle.text.specs.Rows.{one_step}
 use Rattle.text.specs.Names.{Number}
 use Rattle.text.proofs.ahead.one_ahead.Goals as goal
 
--- what `number_at` told, in the arm where it found a number
-told : (c : goal.In-Value-2)
-    → number_at (from c.args.s.now c.args.from) ≡
-    Number.Value c.in-Value.a c.in-Value.n
-told c = sym c.number_at.ensures ∙ c.in-Value.is
-
-fits : (c : goal.In-Value-2)
-    → c.args.from + c.in-Value.n ≤ length
-    c.args.s.now
-fits c = one_fits _ _ _ _ _ c.requires (told c)
-
 -- the row, in the arm where it ends in its commas and LF
 row : (c : goal.After-one_step)
     → Leads c.args.s.now
     (one_step c.args.k c.in-Value.a)
     (c.args.from + c.in-Value.n + 4)
 row c =
+    let told : number_at (from c.args.s.now c.args.from) ≡ Number.Value c.in-Value.a c.in-Value.n = sym c.number_at.ensures ∙ c.in-Value.is in
     one_leads _ _ _ _ _ c.requires
-    (told c.before.before.before.before.before.before.before.before) c.if-a-gt-MOST_STEP_NUMBER.false
+    told c.if-a-gt-MOST_STEP_NUMBER.false
     (sym c.begins.ensures ∙ c.if-begins.true)
 
 pub slice_bounds-number_at-count : goal.slice_bounds-number_at-count
@@ -42,13 +32,22 @@ pub returns-then-a-gt-MOST_STEP_NUMBER : goal.returns-then-a-gt-MOST_STEP_NUMBER
 returns-then-a-gt-MOST_STEP_NUMBER c = unclear _
 
 pub overflow_add-from : goal.overflow_add-from
-overflow_add-from c = omega (arith, fits c.before.before)
+overflow_add-from c =
+    let told : number_at (from c.args.s.now c.args.from) ≡ Number.Value c.in-Value.a c.in-Value.n = sym c.number_at.ensures ∙ c.in-Value.is in
+    let fits : c.args.from + c.in-Value.n ≤ length c.args.s.now = one_fits _ _ _ _ _ c.requires told in
+    omega (arith, fits)
 
 pub slice_bounds-begins-count : goal.slice_bounds-begins-count
-slice_bounds-begins-count c = omega (arith, fits c.before.before)
+slice_bounds-begins-count c =
+    let told : number_at (from c.args.s.now c.args.from) ≡ Number.Value c.in-Value.a c.in-Value.n = sym c.number_at.ensures ∙ c.in-Value.is in
+    let fits : c.args.from + c.in-Value.n ≤ length c.args.s.now = one_fits _ _ _ _ _ c.requires told in
+    omega (arith, fits)
 
 pub slice_bounds-begins-start : goal.slice_bounds-begins-start
-slice_bounds-begins-start c = omega (arith, fits c.before.before)
+slice_bounds-begins-start c =
+    let told : number_at (from c.args.s.now c.args.from) ≡ Number.Value c.in-Value.a c.in-Value.n = sym c.number_at.ensures ∙ c.in-Value.is in
+    let fits : c.args.from + c.in-Value.n ≤ length c.args.s.now = one_fits _ _ _ _ _ c.requires told in
+    omega (arith, fits)
 
 pub overflow_add-result : goal.overflow_add-result
 overflow_add-result c = omega (arith, (row c).within)

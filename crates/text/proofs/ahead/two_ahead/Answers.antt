@@ -11,25 +11,15 @@ use Rattle.text.specs.Rows.{two_step}
 use Rattle.text.specs.Names.{Pair}
 use Rattle.text.proofs.ahead.two_ahead.Goals as goal
 
--- what `pair_at` told, in the arm where it found two numbers
-told : (c : goal.In-Values-2)
-    → pair_at (from c.args.s.now c.args.from) ≡
-    Pair.Values c.in-Values.a c.in-Values.b c.in-Values.n
-told c = sym c.pair_at.ensures ∙ c.in-Values.is
-
-fits : (c : goal.In-Values-2)
-    → c.args.from + c.in-Values.n ≤ length
-    c.args.s.now
-fits c = two_fits _ _ _ _ _ _ c.requires (told c)
-
 -- the row, in the arm where it ends in its commas and LF
 row : (c : goal.After-two_step)
     → Leads c.args.s.now
     (two_step c.args.k c.in-Values.a c.in-Values.b)
     (c.args.from + c.in-Values.n + 3)
 row c =
+    let told : pair_at (from c.args.s.now c.args.from) ≡ Pair.Values c.in-Values.a c.in-Values.b c.in-Values.n = sym c.pair_at.ensures ∙ c.in-Values.is in
     two_leads _ _ _ _ _ _ c.requires
-    (told c.before.before.before.before.before.before.before.before.before)
+    told
     c.if-a-gt-MOST_STEP_NUMBER.false c.if-b-gt-MOST_STEP_NUMBER.false
     (sym c.begins.ensures ∙ c.if-begins.true)
 
@@ -46,13 +36,22 @@ pub returns-then-b-gt-MOST_STEP_NUMBER : goal.returns-then-b-gt-MOST_STEP_NUMBER
 returns-then-b-gt-MOST_STEP_NUMBER c = unclear _
 
 pub overflow_add-from : goal.overflow_add-from
-overflow_add-from c = omega (arith, fits c.before.before.before)
+overflow_add-from c =
+    let told : pair_at (from c.args.s.now c.args.from) ≡ Pair.Values c.in-Values.a c.in-Values.b c.in-Values.n = sym c.pair_at.ensures ∙ c.in-Values.is in
+    let fits : c.args.from + c.in-Values.n ≤ length c.args.s.now = two_fits _ _ _ _ _ _ c.requires told in
+    omega (arith, fits)
 
 pub slice_bounds-begins-count : goal.slice_bounds-begins-count
-slice_bounds-begins-count c = omega (arith, fits c.before.before.before)
+slice_bounds-begins-count c =
+    let told : pair_at (from c.args.s.now c.args.from) ≡ Pair.Values c.in-Values.a c.in-Values.b c.in-Values.n = sym c.pair_at.ensures ∙ c.in-Values.is in
+    let fits : c.args.from + c.in-Values.n ≤ length c.args.s.now = two_fits _ _ _ _ _ _ c.requires told in
+    omega (arith, fits)
 
 pub slice_bounds-begins-start : goal.slice_bounds-begins-start
-slice_bounds-begins-start c = omega (arith, fits c.before.before.before)
+slice_bounds-begins-start c =
+    let told : pair_at (from c.args.s.now c.args.from) ≡ Pair.Values c.in-Values.a c.in-Values.b c.in-Values.n = sym c.pair_at.ensures ∙ c.in-Values.is in
+    let fits : c.args.from + c.in-Values.n ≤ length c.args.s.now = two_fits _ _ _ _ _ _ c.requires told in
+    omega (arith, fits)
 
 pub overflow_add-result : goal.overflow_add-result
 overflow_add-result c = omega (arith, (row c).within)

@@ -9,42 +9,42 @@ use Rattle.text.specs.Pieces.{pair_at}
 use Rattle.text.specs.Names.{Pair}
 use Rattle.text.proofs.row.plan_row.Goals as goal
 
--- what `pair_at` told, in the arm where it found two numbers
-told : (c : goal.In-Values-2)
-    → pair_at c.args.s.now ≡ Pair.Values c.in-Values.n c.in-Values.k
-    c.in-Values.at
-told c = sym c.pair_at.ensures ∙ c.in-Values.is
-
--- and of what stands behind the comma
-told_2 : (c : goal.In-Values-pair_at-2)
-    → pair_at
-    (from c.args.s.now (c.in-Values.at + 1))
-    ≡ Pair.Values c.in-Values-pair_at.r c.in-Values-pair_at.b c.in-Values-pair_at.end
-told_2 c = sym c.pair_at-in-Values.ensures ∙ c.in-Values-pair_at.is
-
 pub returns-then-at-s : goal.returns-then-at-s
-returns-then-at-s c = plan_short _ _ _ _ (told c.before.before) c.if-at-s.true
+returns-then-at-s c =
+    let told : pair_at c.args.s.now ≡ Pair.Values c.in-Values.n c.in-Values.k c.in-Values.at = sym c.pair_at.ensures ∙ c.in-Values.is in
+    plan_short _ _ _ _ told c.if-at-s.true
 
 pub overflow_add-t : goal.overflow_add-t
-overflow_add-t c = omega (arith, pair_fits _ _ _ _ (told c.before.before))
+overflow_add-t c =
+    let told : pair_at c.args.s.now ≡ Pair.Values c.in-Values.n c.in-Values.k c.in-Values.at = sym c.pair_at.ensures ∙ c.in-Values.is in
+    omega (arith, pair_fits _ _ _ _ told)
 
 pub slice_bounds-t-count : goal.slice_bounds-t-count
-slice_bounds-t-count c = omega (arith, pair_fits _ _ _ _ (told c.before.before))
+slice_bounds-t-count c =
+    let told : pair_at c.args.s.now ≡ Pair.Values c.in-Values.n c.in-Values.k c.in-Values.at = sym c.pair_at.ensures ∙ c.in-Values.is in
+    omega (arith, pair_fits _ _ _ _ told)
 
 pub slice_bounds-t-start : goal.slice_bounds-t-start
-slice_bounds-t-start c = omega (arith, pair_fits _ _ _ _ (told c.before.before))
+slice_bounds-t-start c =
+    let told : pair_at c.args.s.now ≡ Pair.Values c.in-Values.n c.in-Values.k c.in-Values.at = sym c.pair_at.ensures ∙ c.in-Values.is in
+    omega (arith, pair_fits _ _ _ _ told)
 
 pub returns-then-end-t : goal.returns-then-end-t
 returns-then-end-t c =
-    plan_is _ _ _ _ (told c.before.before.before.before.before.before.before.before) c.if-at-s.false _ _ _ (told_2 c.before.before) (omega arith)
+    let told_2 : pair_at (from c.args.s.now (c.in-Values.at + 1)) ≡ Pair.Values c.in-Values-pair_at.r c.in-Values-pair_at.b c.in-Values-pair_at.end = sym c.pair_at-in-Values.ensures ∙ c.in-Values-pair_at.is in
+    let told : pair_at c.args.s.now ≡ Pair.Values c.in-Values.n c.in-Values.k c.in-Values.at = sym c.pair_at.ensures ∙ c.in-Values.is in
+    plan_is _ _ _ _ told c.if-at-s.false _ _ _ told_2 (omega arith)
 
 pub returns-in-NoPair : goal.returns-in-NoPair
 returns-in-NoPair c = plan_none _ (sym c.pair_at.ensures ∙ c.in-NoPair.is)
 
 pub returns-in-NoPair-pair_at : goal.returns-in-NoPair-pair_at
 returns-in-NoPair-pair_at c =
-    plan_none_2 _ _ _ _ (told c.before.before.before.before.before.before) c.if-at-s.false (sym c.pair_at-in-Values.ensures ∙ c.in-NoPair-pair_at.is)
+    let told : pair_at c.args.s.now ≡ Pair.Values c.in-Values.n c.in-Values.k c.in-Values.at = sym c.pair_at.ensures ∙ c.in-Values.is in
+    plan_none_2 _ _ _ _ told c.if-at-s.false (sym c.pair_at-in-Values.ensures ∙ c.in-NoPair-pair_at.is)
 
 pub returns-else-end-t : goal.returns-else-end-t
 returns-else-end-t c =
-    plan_long _ _ _ _ (told c.before.before.before.before.before.before.before.before) c.if-at-s.false _ _ _ (told_2 c.before.before) (λ e. omega arith)
+    let told_2 : pair_at (from c.args.s.now (c.in-Values.at + 1)) ≡ Pair.Values c.in-Values-pair_at.r c.in-Values-pair_at.b c.in-Values-pair_at.end = sym c.pair_at-in-Values.ensures ∙ c.in-Values-pair_at.is in
+    let told : pair_at c.args.s.now ≡ Pair.Values c.in-Values.n c.in-Values.k c.in-Values.at = sym c.pair_at.ensures ∙ c.in-Values.is in
+    plan_long _ _ _ _ told c.if-at-s.false _ _ _ told_2 (λ e. omega arith)

@@ -7,28 +7,31 @@ use Rattle.text.specs.Pieces.{pair_at}
 use Rattle.text.specs.Names.{Pair, Row}
 use Rattle.text.proofs.row.with_two.Goals as goal
 
--- what `pair_at` told, in the arm where it found two numbers
-told : (c : goal.In-Values-2)
-    → pair_at c.args.s.now ≡ Pair.Values c.in-Values.a c.in-Values.b
-    c.in-Values.n
-told c = sym c.pair_at.ensures ∙ c.in-Values.is
-
 pub returns-then-a-gt-MOST_STEP_NUMBER : goal.returns-then-a-gt-MOST_STEP_NUMBER
-returns-then-a-gt-MOST_STEP_NUMBER c = two_large _ _ _ _ _ (told c.before.before) c.if-a-gt-MOST_STEP_NUMBER.true
+returns-then-a-gt-MOST_STEP_NUMBER c =
+    let told : pair_at c.args.s.now ≡ Pair.Values c.in-Values.a c.in-Values.b c.in-Values.n = sym c.pair_at.ensures ∙ c.in-Values.is in
+    two_large _ _ _ _ _ told c.if-a-gt-MOST_STEP_NUMBER.true
 
 pub returns-then-b-gt-MOST_STEP_NUMBER : goal.returns-then-b-gt-MOST_STEP_NUMBER
-returns-then-b-gt-MOST_STEP_NUMBER c = two_large_2 _ _ _ _ _ (told c.before.before.before) c.if-b-gt-MOST_STEP_NUMBER.true
+returns-then-b-gt-MOST_STEP_NUMBER c =
+    let told : pair_at c.args.s.now ≡ Pair.Values c.in-Values.a c.in-Values.b c.in-Values.n = sym c.pair_at.ensures ∙ c.in-Values.is in
+    two_large_2 _ _ _ _ _ told c.if-b-gt-MOST_STEP_NUMBER.true
 
 pub slice_bounds-same-count : goal.slice_bounds-same-count
-slice_bounds-same-count c = omega (arith, pair_fits _ _ _ _ (told c.before.before.before))
+slice_bounds-same-count c =
+    let told : pair_at c.args.s.now ≡ Pair.Values c.in-Values.a c.in-Values.b c.in-Values.n = sym c.pair_at.ensures ∙ c.in-Values.is in
+    omega (arith, pair_fits _ _ _ _ told)
 
 pub slice_bounds-same-start : goal.slice_bounds-same-start
-slice_bounds-same-start c = omega (arith, pair_fits _ _ _ _ (told c.before.before.before))
+slice_bounds-same-start c =
+    let told : pair_at c.args.s.now ≡ Pair.Values c.in-Values.a c.in-Values.b c.in-Values.n = sym c.pair_at.ensures ∙ c.in-Values.is in
+    omega (arith, pair_fits _ _ _ _ told)
 
 pub returns-then-same : goal.returns-then-same
 returns-then-same c =
+    let told : pair_at c.args.s.now ≡ Pair.Values c.in-Values.a c.in-Values.b c.in-Values.n = sym c.pair_at.ensures ∙ c.in-Values.is in
     ap Row.Step c.two_step.ensures
-    ∙ two_is _ _ _ _ _ (told c.before.before.before.before.before.before.before.before.before) c.if-a-gt-MOST_STEP_NUMBER.false c.if-b-gt-MOST_STEP_NUMBER.false
+    ∙ two_is _ _ _ _ _ told c.if-a-gt-MOST_STEP_NUMBER.false c.if-b-gt-MOST_STEP_NUMBER.false
     (sym c.same.ensures ∙ c.if-same.true)
 
 pub returns-in-NoPair : goal.returns-in-NoPair
@@ -36,5 +39,6 @@ returns-in-NoPair c = two_none _ _ (sym c.pair_at.ensures ∙ c.in-NoPair.is)
 
 pub returns-else-same : goal.returns-else-same
 returns-else-same c =
-    two_used _ _ _ _ _ (told c.before.before.before.before.before.before.before.before) c.if-a-gt-MOST_STEP_NUMBER.false c.if-b-gt-MOST_STEP_NUMBER.false
+    let told : pair_at c.args.s.now ≡ Pair.Values c.in-Values.a c.in-Values.b c.in-Values.n = sym c.pair_at.ensures ∙ c.in-Values.is in
+    two_used _ _ _ _ _ told c.if-a-gt-MOST_STEP_NUMBER.false c.if-b-gt-MOST_STEP_NUMBER.false
     (sym c.same.ensures ∙ c.if-same.false)

@@ -7,35 +7,42 @@ use Rattle.text.specs.Pieces.{number_at}
 use Rattle.text.specs.Names.{Number}
 use Rattle.text.proofs.row.write_row.Goals as goal
 
--- what `number_at` told, in the arm where it found a number
-told : (c : goal.In-Value-2)
-    → number_at c.args.s.now ≡ Number.Value c.in-Value.a c.in-Value.n
-told c = sym c.number_at.ensures ∙ c.in-Value.is
-
 pub returns-then-a-gt-MOST_STEP_NUMBER : goal.returns-then-a-gt-MOST_STEP_NUMBER
-returns-then-a-gt-MOST_STEP_NUMBER c = write_large _ _ _ (told c.before.before) c.if-a-gt-MOST_STEP_NUMBER.true
+returns-then-a-gt-MOST_STEP_NUMBER c =
+    let told : number_at c.args.s.now ≡ Number.Value c.in-Value.a c.in-Value.n = sym c.number_at.ensures ∙ c.in-Value.is in
+    write_large _ _ _ told c.if-a-gt-MOST_STEP_NUMBER.true
 
 pub returns-then-n-s : goal.returns-then-n-s
-returns-then-n-s c = write_short _ _ _ (told c.before.before.before) c.if-n-s.true
+returns-then-n-s c =
+    let told : number_at c.args.s.now ≡ Number.Value c.in-Value.a c.in-Value.n = sym c.number_at.ensures ∙ c.in-Value.is in
+    write_short _ _ _ told c.if-n-s.true
 
 pub overflow_add-n : goal.overflow_add-n
-overflow_add-n c = omega (arith, told_fits _ _ _ (told c.before.before.before))
+overflow_add-n c =
+    let told : number_at c.args.s.now ≡ Number.Value c.in-Value.a c.in-Value.n = sym c.number_at.ensures ∙ c.in-Value.is in
+    omega (arith, told_fits _ _ _ told)
 
 pub slice_bounds-reading_of-count : goal.slice_bounds-reading_of-count
-slice_bounds-reading_of-count c = omega (arith, told_fits _ _ _ (told c.before.before.before))
+slice_bounds-reading_of-count c =
+    let told : number_at c.args.s.now ≡ Number.Value c.in-Value.a c.in-Value.n = sym c.number_at.ensures ∙ c.in-Value.is in
+    omega (arith, told_fits _ _ _ told)
 
 pub slice_bounds-reading_of-start : goal.slice_bounds-reading_of-start
-slice_bounds-reading_of-start c = omega (arith, told_fits _ _ _ (told c.before.before.before))
+slice_bounds-reading_of-start c =
+    let told : number_at c.args.s.now ≡ Number.Value c.in-Value.a c.in-Value.n = sym c.number_at.ensures ∙ c.in-Value.is in
+    omega (arith, told_fits _ _ _ told)
 
 pub returns-in-NoNumber : goal.returns-in-NoNumber
 returns-in-NoNumber c = write_none _ (sym c.number_at.ensures ∙ c.in-NoNumber.is)
 
 pub returns-in-Nothing : goal.returns-in-Nothing
 returns-in-Nothing c =
-    write_is _ _ _ (told c.before.before.before.before.before.before.before) c.if-a-gt-MOST_STEP_NUMBER.false c.if-n-s.false _
+    let told : number_at c.args.s.now ≡ Number.Value c.in-Value.a c.in-Value.n = sym c.number_at.ensures ∙ c.in-Value.is in
+    write_is _ _ _ told c.if-a-gt-MOST_STEP_NUMBER.false c.if-n-s.false _
     (sym c.in-Nothing.is ∙ c.reading_of.ensures)
 
 pub returns-in-Says : goal.returns-in-Says
 returns-in-Says c =
-    write_is _ _ _ (told c.before.before.before.before.before.before.before.before) c.if-a-gt-MOST_STEP_NUMBER.false c.if-n-s.false _
+    let told : number_at c.args.s.now ≡ Number.Value c.in-Value.a c.in-Value.n = sym c.number_at.ensures ∙ c.in-Value.is in
+    write_is _ _ _ told c.if-a-gt-MOST_STEP_NUMBER.false c.if-n-s.false _
     (sym c.in-Says.is ∙ c.reading_of.ensures)

@@ -10,7 +10,7 @@ pub returns-then-e-s : goal.returns-then-e-s
 returns-then-e-s c =
     let args = c.args in
     let line-end = c.line_end-e in
-    ((omega arith, omega arith), (λ h. rest_bare args.s.now args.i line-end.result c.if-e-s.true line-end.ensures.1.0, λ h. absurd (omega arith)))
+    ((omega arith, omega arith), (λ h. rest_bare args.s.now args.i line-end.result c.if-e-s.true line-end.ensures.s_value, λ h. absurd (omega arith)))
 
 pub slice_bounds-step_in-end : goal.slice_bounds-step_in-end
 slice_bounds-step_in-end c = sym (length-take-le _ _ c.trim-n.ensures.1)
@@ -20,4 +20,4 @@ returns c =
     let args = c.args in
     let line-end = c.line_end-e in
     let trim = c.trim-n in
-    ((omega arith, omega arith), (λ h. absurd (omega arith), λ h. ended_row args.s.now args.i line-end.result _ c.step_in.result line-end.ensures.0.0 (omega arith) line-end.ensures.1.0 (line-end.ensures.1.1 (omega arith)) trim.ensures.0 c.step_in.ensures))
+    ((omega arith, omega arith), (λ h. absurd (omega arith), λ h. ended_row args.s.now args.i line-end.result _ c.step_in.result line-end.ensures.lower_bound.0 (omega arith) line-end.ensures.s_value (line-end.ensures.result_value (omega arith)) trim.ensures.0 c.step_in.ensures))

@@ -14,10 +14,10 @@ loop-i-preserved c =
     (omega arith, omega arith, part_bare args.s.now args.from loop.i (omega arith) (omega arith) c.if-s-i-eq10.false loop.invariant.2)
 
 pub returns-after-loop-i : goal.returns-after-loop-i
-returns-after-loop-i c = ((omega arith, omega arith), (c.loop-i.invariant.2, λ h. absurd (omega arith)))
+returns-after-loop-i c = record { lower_bound = (omega arith, omega arith); s_value = c.loop-i.invariant.2; result_value = λ h. absurd (omega arith) }
 
 pub returns-then-s-i-eq10 : goal.returns-then-s-i-eq10
-returns-then-s-i-eq10 c = ((omega arith, omega arith), (c.loop-i.invariant.2, λ h. c.if-s-i-eq10.true))
+returns-then-s-i-eq10 c = record { lower_bound = (omega arith, omega arith); s_value = c.loop-i.invariant.2; result_value = λ h. c.if-s-i-eq10.true }
 
 pub bounds-s-i : goal.bounds-s-i
 bounds-s-i c = omega arith

@@ -32,5 +32,5 @@ returns-in-119 c = c.head_if-in-119.ensures ∙ by_lead kinds _ 119 (omega arith
 
 pub returns-in_default : goal.returns-in_default
 returns-in_default c =
-    let r = c.in_default.rest in
+    let r = c.in_default.in_default-own.rest in
     by_none _ (omega arith) _ refl r.0.0.0.0.0.1 r.0.0.0.0.1 r.0.0.0.1 r.0.0.1 r.0.1 r.1

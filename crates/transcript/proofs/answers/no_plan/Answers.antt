@@ -7,4 +7,4 @@ pub returns : goal.returns
 unfolding next_phase next_row next_run say_line
 returns c =
     let put-refusal = c.put_refusal-end in
-    (refl, refl, refl, refl, put-refusal.ensures.0.0, put-refusal.ensures.0.1, put-refusal.ensures.1)
+    (refl, refl, refl, refl, put-refusal.ensures.wrote.0, put-refusal.ensures.wrote.1, put-refusal.ensures.upper_bound)

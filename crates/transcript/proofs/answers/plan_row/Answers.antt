@@ -23,7 +23,7 @@ returns-in-Plan c =
     let row_in = c.row_in in
     let put-plan = c.put_plan-end in
     let q = plan_some args.kept.row args.run (pick_held args.over args.l.now) _ _ _ _ start.result (sym c.in-Plan.is ∙ row_in.ensures) start.ensures in
-    (refl, c.start_phase.ensures ∙ q.0, q.1, q.2, rw (← q.3) (put-plan.ensures.0.0), rw (← q.3) (put-plan.ensures.0.1), put-plan.ensures.1)
+    (refl, c.start_phase.ensures ∙ q.0, q.1, q.2, rw (← q.3) (put-plan.ensures.wrote.0), rw (← q.3) (put-plan.ensures.wrote.1), put-plan.ensures.upper_bound)
 
 pub returns-in-Step : goal.returns-in-Step
 returns-in-Step c =

@@ -26,7 +26,8 @@ steps-went-requires c =
     let if2 = c.if-is_running in
     let pre = c.requires in
     let o = lf_one args.kept args.line.now args.run (simp length-set at s4.given.0) if1.false (sym says_running.ensures ∙ if2.true) pre.1.1 in
-    (omega (arith, o), (omega (arith, o), running_sound args.kept.phase args.run (sym says_running.ensures ∙ if2.true) pre.1.1.0))
+    let both = (omega (arith, o), (omega (arith, o), running_sound args.kept.phase args.run (sym says_running.ensures ∙ if2.true) pre.1.1.0)) in
+    record { s_in_bounds = both.0; s_bound = both.1; run_value = both.2 }
 
 pub returns-then-is_running : goal.returns-then-is_running
 returns-then-is_running c =
@@ -50,7 +51,8 @@ pub act-requires-2 : goal.act-requires-2
 act-requires-2 c =
     let says_running = c.is_running in
     let if2 = c.if-is_running in
-    (λ e. sym (sym e ∙ sym says_running.ensures ∙ if2.false), (omega arith, omega arith))
+    let both = (λ e. sym (sym e ∙ sym says_running.ensures ∙ if2.false), (omega arith, omega arith)) in
+    record { over_value = both.0; room_in_bounds = both.1; row_bound = both.2 }
 
 pub returns : goal.returns
 returns c =

@@ -39,23 +39,23 @@ Due h = at_step h.lead-led.result.kept.phase h.lead-led.result.kept.len ≡ true
 sound : (h : Here) → Due h → undamaged h.lead-led.result.run ≡ true
 sound h due =
     let whole =
-    whole_at (before h) _ (take h.lead-led.result.used h.args.s.now) h.requires.1.1 h.lead-led.ensures.0 in
+    whole_at (before h) _ (take h.lead-led.result.used h.args.s.now) h.requires.s_bound.1 h.lead-led.ensures.run_after in
     step_sound h.lead-led.result.kept.phase h.lead-led.result.kept.len h.lead-led.result.run due whole.0
 
 -- the rows that are left have room and numbers
 fits : (h : Here) → h.lead-led.result.kept.at + room * breaks (rest h) ≤ length h.args.out.now
 fits h =
     let most = rest_most h.args.s.now h.lead-led.result.used in
-    omega (arith, most, h.lead-led.ensures.1.1.1.0.0, h.lead-led.ensures.1.1.1.1.0, h.requires.0)
+    omega (arith, most, h.lead-led.ensures.out_after.1.1.0.0, h.lead-led.ensures.out_after.1.1.1.0, h.requires.room_in_bounds)
 
 counted : (h : Here) → h.lead-led.result.kept.row + breaks (rest h) < 2 ^ 64
 counted h =
     let most = rest_most h.args.s.now h.lead-led.result.used in
-    omega (arith, most, h.lead-led.ensures.1.1.1.0.1, h.lead-led.ensures.1.1.1.1.0, h.requires.1.0)
+    omega (arith, most, h.lead-led.ensures.out_after.1.1.0.1, h.lead-led.ensures.out_after.1.1.1.0, h.requires.s_bound.0)
 
 pub steps-went-requires : goal.steps-went-requires
-steps-went-requires c =
-    (omega (arith, fits c.before.before, c.out-1.given), (counted c.before.before, sound c.before.before (sym c.at_step.ensures ∙ c.if-at_step.true)))
+steps-went-requires c = let both = (omega (arith, fits c.before.before, c.out-1.given), (counted c.before.before, sound c.before.before (sym c.at_step.ensures ∙ c.if-at_step.true))) in
+    record { s_in_bounds = both.0; s_bound = both.1; run_value = both.2 }
 
 pub hold-len-requires : goal.hold-len-requires
 hold-len-requires c =
@@ -74,7 +74,8 @@ returns-then-at_step c =
     c.args.out.now _ _ c.args.kept.at c.hold-len.result (rest c.before.before.before.before.before.before.before.before.before) _
     (part_all c.args.s.now c.lead-led.result.used)
     (part_all (rest c.before.before.before.before.before.before.before.before.before) c.steps-went.result.used)
-    v.0 (v.1.0, v.1.1.0) due (sound c.before.before.before.before.before.before.before.before.before due) t c.hold-len.ensures (omega (arith, c.requires.0)) in (
+    v.0 (v.1.0, v.1.1.0) due (sound c.before.before.before.before.before.before.before.before.before due) t c.hold-len.ensures (omega (arith, c.requires.room_in_bounds)) in
+    let both = (
       q.0,
       (
         q.1.0,
@@ -82,11 +83,12 @@ returns-then-at_step c =
           q.1.1,
           (
             (omega (arith, most, v.1.1.1.0.0, v.1.1.1.1.0, t.room), omega (arith, most, v.1.1.1.0.1, v.1.1.1.1.0, t.rows)),
-            whole_at (before c.before.before.before.before.before.before.before.before.before) _ c.args.s.now c.requires.1.1 q.0,
+            whole_at (before c.before.before.before.before.before.before.before.before.before) _ c.args.s.now c.requires.s_bound.1 q.0,
           ),
         ),
       ),
-    )
+    ) in
+    record { run_after = both.0; out_after = both.1; at_value = both.2; at_bound = both.3; whole_2 = both.4 }
 
 pub returns : goal.returns
 returns c =
@@ -94,13 +96,15 @@ returns c =
     let all =
     take_all c.lead-led.result.used c.args.s.now
     (all_led _ _ _ (sym c.at_step.ensures ∙ c.if-at_step.false) v.1.1.1.1.1) in
-    let q = rw all at v.0 in (
+    let q = rw all at v.0 in
+    let both = (
       q,
       (
         rw all at v.1.0,
         (
           rw all at v.1.1.0,
-          ((omega (arith, v.1.1.1.0.0, v.1.1.1.1.0), omega (arith, v.1.1.1.0.1, v.1.1.1.1.0)), whole_at (before c.before) _ c.args.s.now c.requires.1.1 q),
+          ((omega (arith, v.1.1.1.0.0, v.1.1.1.1.0), omega (arith, v.1.1.1.0.1, v.1.1.1.1.0)), whole_at (before c.before) _ c.args.s.now c.requires.s_bound.1 q),
         ),
       ),
-    )
+    ) in
+    record { run_after = both.0; out_after = both.1; at_value = both.2; at_bound = both.3; whole_2 = both.4 }

@@ -21,7 +21,8 @@ end_line-f-requires c =
     let args = c.args in
     let loop = c.loop-i in
     let pre = c.requires in
-    (omega arith, (omega arith, whole_at (mach_of args.kept args.line.now args.run) (mach_of loop.k loop.line loop.held) (take loop.i args.s.now) pre.1.1 loop.invariant.4))
+    let both = (omega arith, (omega arith, whole_at (mach_of args.kept args.line.now args.run) (mach_of loop.k loop.line loop.held) (take loop.i args.s.now) pre.1.1 loop.invariant.4)) in
+    record { room_in_bounds = both.0; row_bound = both.1; whole = both.2 }
 
 pub loop-i-preserved : goal.loop-i-preserved
 loop-i-preserved c =
@@ -34,14 +35,17 @@ loop-i-preserved c =
     c.if-s-i-eq10.branch
 
 pub returns-after-loop-i : goal.returns-after-loop-i
-returns-after-loop-i c = let v = c.loop-i.invariant in (v.4, (v.5, (v.6, ((omega arith, omega arith), (omega arith, λ h. absurd (omega arith))))))
+returns-after-loop-i c = let v = c.loop-i.invariant in
+    let both = (v.4, (v.5, (v.6, ((omega arith, omega arith), (omega arith, λ h. absurd (omega arith)))))) in
+    record { run_after = both.0; out_after = both.1; at_value = both.2; at_bound = both.3; used_in_bounds = both.4 }
 
 pub returns-then-at_step : goal.returns-then-at_step
 returns-then-at_step c =
     let loop = c.loop-i in
     let at-step = c.at_step in
     let v = loop.invariant in
-    (v.4, (v.5, (v.6, ((omega arith, omega arith), (omega arith, λ h. sym at-step.ensures ∙ c.if-at_step.true)))))
+    let both = (v.4, (v.5, (v.6, ((omega arith, omega arith), (omega arith, λ h. sym at-step.ensures ∙ c.if-at_step.true))))) in
+    record { run_after = both.0; out_after = both.1; at_value = both.2; at_bound = both.3; used_in_bounds = both.4 }
 
 pub bounds-s-i : goal.bounds-s-i
 bounds-s-i c = omega arith

@@ -15,8 +15,9 @@ returns-then-len-gt-MOST_LINE c =
     let args = c.args in
     let if1 = c.if-len-gt-MOST_LINE in
     let act = c.act-f in
-    rw (← end_over args.kept.phase args.kept.row args.run args.kept.len args.line.now args.line.now if1.true)
-    (act.ensures.4, (act.ensures.5, act.ensures.6))
+    let both = rw (← end_over args.kept.phase args.kept.row args.run args.kept.len args.line.now args.line.now if1.true)
+    (act.ensures.4, (act.ensures.5, act.ensures.6)) in
+    record { out_after = both.0; value = both.1 }
 
 pub last_step-requires : goal.last_step-requires
 last_step-requires c =
@@ -25,10 +26,12 @@ last_step-requires c =
     let says_running = c.is_running in
     let if3 = c.if-is_running in
     let pre = c.requires in
-    ((if2.true, if1.false, sym says_running.ensures ∙ if3.true), (omega arith, (omega arith, pre.1.1)))
+    let both = ((if2.true, if1.false, sym says_running.ensures ∙ if3.true), (omega arith, (omega arith, pre.1.1))) in
+    record { len_nonzero = both.0; room_in_bounds = both.1; row_bound = both.2; whole = both.3 }
 
 pub returns-then-is_running : goal.returns-then-is_running
-returns-then-is_running c = c.last_step.ensures
+returns-then-is_running c = let both = c.last_step.ensures in
+    record { out_after = both.0; value = both.1 }
 
 pub slice_bounds-act-end : goal.slice_bounds-act-end
 slice_bounds-act-end c = sym (length-take-le _ _ (omega (arith, c.s-then-len-gt0-2-1.given.0)))
@@ -37,7 +40,8 @@ pub act-f-requires-then-len-gt0 : goal.act-f-requires-then-len-gt0
 act-f-requires-then-len-gt0 c =
     let says_running = c.is_running in
     let if3 = c.if-is_running in
-    (λ e. sym (sym e ∙ sym says_running.ensures ∙ if3.false), (omega arith, omega arith))
+    let both = (λ e. sym (sym e ∙ sym says_running.ensures ∙ if3.false), (omega arith, omega arith)) in
+    record { over_value = both.0; room_in_bounds = both.1; row_bound = both.2 }
 
 pub returns-then-len-gt0 : goal.returns-then-len-gt0
 returns-then-len-gt0 c =
@@ -46,29 +50,38 @@ returns-then-len-gt0 c =
     let if1 = c.if-len-gt-MOST_LINE in
     let if2 = c.if-len-gt0 in
     let act2 = c.act-f-then-len-gt0 in
-    rw
+    let both = rw
     (← end_line_is args.kept.phase args.kept.row args.run args.kept.len args.line.now s4.given.0 if1.false if2.true)
-    (act2.ensures.4, (act2.ensures.5, act2.ensures.6))
+    (act2.ensures.4, (act2.ensures.5, act2.ensures.6)) in
+    record { out_after = both.0; value = both.1 }
 
 pub enum_told-1 : goal.enum_told-1
 enum_told-1 c = search rules
 
 pub act-f-requires-in-Header : goal.act-f-requires-in-Header
-act-f-requires-in-Header c = (λ e. absurd (let z : ◌≡◌ {A = ℕ} 0 1 = cc (sym e ∙ ap is_running c.in-Header.is) in omega arith), (omega arith, omega arith))
+act-f-requires-in-Header c = let both = (λ e. absurd (let z : ◌≡◌ {A = ℕ} 0 1 = cc (sym e ∙ ap is_running c.in-Header.is) in omega arith), (omega arith, omega arith)) in
+    record { over_value = both.0; room_in_bounds = both.1; row_bound = both.2 }
 
 pub returns-in-Header : goal.returns-in-Header
 returns-in-Header c =
     let args = c.args in
     let if2 = c.if-len-gt0 in
     let act3 = c.act-f-in-Header in
-    rw (← end_first args.kept.phase args.kept.row args.run args.kept.len args.line.now if2.false c.in-Header.is)
-    (act3.ensures.4, (act3.ensures.5, act3.ensures.6))
+    let both = rw (← end_first args.kept.phase args.kept.row args.run args.kept.len args.line.now if2.false c.in-Header.is)
+    (act3.ensures.4, (act3.ensures.5, act3.ensures.6)) in
+    record { out_after = both.0; value = both.1 }
 
 pub returns-in-Planning : goal.returns-in-Planning
-returns-in-Planning c = let n : (c.args.kept.phase ≡ Phase.Header → ⊥) = λ h. let z : ◌≡◌ {A = ℕ} 0 1 = cc (sym h ∙ c.in-Planning.is) in omega arith in rw (← end_none c.args.kept.phase c.args.kept.row c.args.run c.args.kept.len c.args.line.now c.if-len-gt0.false n) (put_none _ _, (omega arith, omega arith))
+returns-in-Planning c = let n : (c.args.kept.phase ≡ Phase.Header → ⊥) = λ h. let z : ◌≡◌ {A = ℕ} 0 1 = cc (sym h ∙ c.in-Planning.is) in omega arith in
+    let both = rw (← end_none c.args.kept.phase c.args.kept.row c.args.run c.args.kept.len c.args.line.now c.if-len-gt0.false n) (put_none _ _, (omega arith, omega arith)) in
+    record { out_after = both.0; value = both.1 }
 
 pub returns-in-Running : goal.returns-in-Running
-returns-in-Running c = let n : (c.args.kept.phase ≡ Phase.Header → ⊥) = λ h. let z : ◌≡◌ {A = ℕ} 0 1 = cc (sym h ∙ c.in-Running.is) in omega arith in rw (← end_none c.args.kept.phase c.args.kept.row c.args.run c.args.kept.len c.args.line.now c.if-len-gt0.false n) (put_none _ _, (omega arith, omega arith))
+returns-in-Running c = let n : (c.args.kept.phase ≡ Phase.Header → ⊥) = λ h. let z : ◌≡◌ {A = ℕ} 0 1 = cc (sym h ∙ c.in-Running.is) in omega arith in
+    let both = rw (← end_none c.args.kept.phase c.args.kept.row c.args.run c.args.kept.len c.args.line.now c.if-len-gt0.false n) (put_none _ _, (omega arith, omega arith)) in
+    record { out_after = both.0; value = both.1 }
 
 pub returns-in-Ended : goal.returns-in-Ended
-returns-in-Ended c = let n : (c.args.kept.phase ≡ Phase.Header → ⊥) = λ h. let z : ◌≡◌ {A = ℕ} 0 1 = cc (sym h ∙ c.in-Ended.is) in omega arith in rw (← end_none c.args.kept.phase c.args.kept.row c.args.run c.args.kept.len c.args.line.now c.if-len-gt0.false n) (put_none _ _, (omega arith, omega arith))
+returns-in-Ended c = let n : (c.args.kept.phase ≡ Phase.Header → ⊥) = λ h. let z : ◌≡◌ {A = ℕ} 0 1 = cc (sym h ∙ c.in-Ended.is) in omega arith in
+    let both = rw (← end_none c.args.kept.phase c.args.kept.row c.args.run c.args.kept.len c.args.line.now c.if-len-gt0.false n) (put_none _ _, (omega arith, omega arith)) in
+    record { out_after = both.0; value = both.1 }

@@ -14,7 +14,8 @@ steps-went-requires c =
     let close = c.close-n in
     let pre = c.requires in
     let o = crlf_one args.kept args.line.now args.run close.ensures.2 pre.0.1 pre.0.2 pre.1.1.1 _ close.ensures.0 in
-    (omega (arith, o), (omega (arith, o), running_sound args.kept.phase args.run pre.0.2 pre.1.1.1.0))
+    let both = (omega (arith, o), (omega (arith, o), running_sound args.kept.phase args.run pre.0.2 pre.1.1.1.0)) in
+    record { s_in_bounds = both.0; s_bound = both.1; run_value = both.2 }
 
 pub returns : goal.returns
 returns c =
@@ -23,4 +24,4 @@ returns c =
     let pre = c.requires in
     let steps = c.steps-went in
     let q = crlf_ended args.kept args.line.now args.run close.ensures.2 pre.0.1 pre.0.2 pre.1.1.1 _ _ _ steps.result pre.0.0 close.ensures.0 steps.ensures in
-    (q.0.0, (q.0.1, q.1))
+    record { out_after = q.0.0; value = (q.0.1, q.1) }

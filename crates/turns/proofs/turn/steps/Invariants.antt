@@ -4,13 +4,6 @@ use Rattle.run.specs.Gather.{first_from}
 use Rattle.turns.proofs.TakingLaws.{Taking}
 use lib.ListN.{length, drop}
 use mathlib.Core.Path.{◌≡◌}
-use Rattle.limits.specs.Limits.{most_slots}
-use Prim.Native.Nat.{◌≤◌}
-use Rattle.limits.specs.Limits.{most_slots}
-use Rattle.run.specs.Gather.{first_from}
-use lib.ListN.{drop}
-use mathlib.Core.Path.{◌≡◌}
-use Rattle.limits.specs.Limits.{most_slots}
 use Rattle.turns.proofs.turn.steps.Given as goal
 
 abbrev pub invariant-loop-j : goal.invariant-loop-j
