@@ -3,4 +3,3 @@ pub mod DeskLaws
 pub mod TableLaws
 pub mod Truth
 pub mod ViewLaws
-pub mod Walk

@@ -3,7 +3,5 @@ pub mod CutLaws
 pub mod Decides
 pub mod LentLaws
 pub mod LocalLaws
-pub mod PassOn
 pub mod StoreLaws
-pub mod Values
 pub mod ViewLaws

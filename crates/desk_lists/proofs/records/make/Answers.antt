@@ -8,4 +8,4 @@ unfolding with_cabinets
 returns c =
     let a = c.args in
     let t = c.take_list-z in
-    made_by_list a.run a.lent a.steps a.count a.answers.now t.result t.new.1.1.1.0 t.ensures
+    made_by_list a.run a.lent a.steps a.count a.answers.now t.result t.new.answers t.ensures
