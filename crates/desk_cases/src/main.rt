@@ -7,31 +7,26 @@ mod list;
 mod show;
 mod tables;
 
+use cases::read_full;
+use std::rt::Files;
+use std::{env, fs, io};
+
 // A list that is longer than the buffer would be cut, and its counts would show that.
-fn one(i: usize) {
-    let mut path = io::buffer();
-    let n = os::arg(i, &mut path);
-    if os::errno() != 0 {
-        os::fail(b"argument");
-        return;
+fn one(rt: &(impl Files + Print + Eprint), path: &str) -> io::Result<()> {
+    match fs::open(rt, path) {
+        Ok(file) => {
+            let mut list = file;
+            let mut bytes = cases::buffer();
+            let len = read_full(&mut list, &mut bytes);
+            show::list(rt, path, list::compare(&bytes[..len]))
+        }
+        Err(e) => eprintln!(rt; "list: {e}"),
     }
-    let fd = os::open_read(&path[..n]);
-    if fd < 0 {
-        os::fail(b"list");
-        return;
-    }
-    let mut bytes = io::large_buffer();
-    let len = io::read_full(fd, &mut bytes);
-    libc::close(fd);
-    show::list(&path[..n], list::compare(&bytes[..len]));
 }
 
-fn main() {
-    let n = os::arg_count();
-    let mut i: usize = 1;
-    while i < n {
-        one(i);
-        i += 1;
+fn main(rt: HostRuntime) -> io::Result<()> {
+    for path in env::args(&rt)?.skip(1) {
+        one(&rt, path.as_str())?;
     }
-    tables::all();
+    tables::all(&rt)
 }

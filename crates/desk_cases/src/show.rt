@@ -3,54 +3,37 @@ ghost use Rattle.std.specs.Prelude.{◌+◌, ◌≤◌};
 ghost use Rattle.cases.specs.Sizes.{most_list_bytes};
 
 use super::list::Tally;
-use libc::STDOUT_FILENO;
+use std::io;
 
-fn word(s: &[u8]) {
-    io::write_all(STDOUT_FILENO, s);
-}
-
-fn number(n: u64) {
-    io::print_decimal(STDOUT_FILENO, n);
-}
-
-fn counts(t: Tally)
+fn counts(rt: &impl Print, t: Tally) -> io::Result<()>
     requires { t.accepted + t.refused ≤ most_list_bytes }
 {
     let a = t.accepted;
     let r = t.refused;
-    number(a + r);
-    word(b" steps, ");
-    number(a);
-    word(b" accepted, ");
-    number(r);
-    word(b" refused, ");
+    let n = a + r;
+    print!(rt; "{n} steps, {a} accepted, {r} refused, ")
 }
 
-pub fn list(name: &[u8], t: Tally)
+pub fn list(rt: &impl Print, name: &str, t: Tally) -> io::Result<()>
     requires { t.accepted + t.refused ≤ most_list_bytes }
 {
-    word(name);
-    word(b": ");
-    if t.begun {
-        counts(t);
-        if t.differs == 0 {
-            word(b"agree\n");
-        } else {
-            word(b"ROW ");
-            number(t.differs);
-            word(b" DIFFERS\n");
-        }
+    print!(rt; "{name}: ")?;
+    if !t.begun {
+        return println!(rt; "NO PLAN");
+    }
+    counts(rt, t)?;
+    let row = t.differs;
+    if row == 0 {
+        println!(rt; "agree")
     } else {
-        word(b"NO PLAN\n");
+        println!(rt; "ROW {row} DIFFERS")
     }
 }
 
-pub fn table(n: u64, name: &[u8], kept: bool) {
-    number(n);
-    word(b" ");
-    word(name);
+pub fn table(rt: &impl Print, n: u64, name: &str, kept: bool) -> io::Result<()> {
+    print!(rt; "{n} {name}")?;
     if kept {
-        word(b", nothing changed");
+        print!(rt; ", nothing changed")?;
     }
-    word(b"\n");
+    println!(rt; "")
 }

@@ -5,6 +5,7 @@ use cabinet::Cabinet;
 use cases::sums;
 use limits::MOST_CABINETS;
 use run::Run;
+use std::io;
 use types::Step;
 
 // Whether a step left all as it was.
@@ -25,43 +26,49 @@ fn kept(
     false
 }
 
-fn answered(r: Run, table: [Cabinet; MOST_CABINETS], len: usize, word: &[u8]) {
+fn answered(
+    rt: &impl Print,
+    r: Run,
+    table: [Cabinet; MOST_CABINETS],
+    len: usize,
+    word: &str,
+) -> io::Result<()> {
     let y = desk::step_local(r, table, len, Step::Stop(1));
     let z = y.served;
     let a = z.answer;
     let after = z.run;
     let left = y.table;
-    show::table(lent_number(a), word, kept(r, table, after, left));
+    show::table(rt, lent_number(a), word, kept(r, table, after, left))
 }
 
-fn lengths(r: Run, table: [Cabinet; MOST_CABINETS]) {
-    answered(r, table, 4, b"four records");
-    answered(r, table, 3, b"three records");
-    answered(r, table, 5, b"five records");
-    answered(r, table, 0, b"no records");
-    answered(r, table, MOST_CABINETS, b"nine records");
+fn lengths(rt: &impl Print, r: Run, table: [Cabinet; MOST_CABINETS]) -> io::Result<()> {
+    answered(rt, r, table, 4, "four records")?;
+    answered(rt, r, table, 3, "three records")?;
+    answered(rt, r, table, 5, "five records")?;
+    answered(rt, r, table, 0, "no records")?;
+    answered(rt, r, table, MOST_CABINETS, "nine records")
 }
 
 // A record that keeps no version is damaged.
-fn damage(r: Run, table: [Cabinet; MOST_CABINETS]) {
+fn damage(rt: &impl Print, r: Run, table: [Cabinet; MOST_CABINETS]) -> io::Result<()> {
     let mut k = table[1];
     k.kept = 0;
     let mut lent = table;
     lent[1] = k;
-    answered(r, lent, 4, b"a damaged record lent");
+    answered(rt, r, lent, 4, "a damaged record lent")?;
     let mut own = r;
     own.cabinets[1] = k;
-    answered(own, table, 4, b"a damaged record of the run's own");
+    answered(rt, own, table, 4, "a damaged record of the run's own")?;
     let mut past = table;
     past[4] = k;
-    answered(r, past, 4, b"a damaged record past those lent");
+    answered(rt, r, past, 4, "a damaged record past those lent")
 }
 
 // The run has four cabinets.
-pub fn all() {
+pub fn all(rt: &impl Print) -> io::Result<()> {
     let started = run::start(4, 1, 1, 2);
     let r = started.run;
     let table = r.cabinets;
-    lengths(r, table);
-    damage(r, table);
+    lengths(rt, r, table)?;
+    damage(rt, r, table)
 }

@@ -1,7 +1,7 @@
 // A list in one go, as docs/DESKS.md shows it: one write, and the numbers of the answers.
 use cabinet::Reading;
-use libc::STDOUT_FILENO;
 use lists::{MOST_LISTED, Whole, take_list};
+use std::io;
 use types::Step;
 
 const STEPS: usize = 14;
@@ -26,29 +26,23 @@ fn morning() -> [Step; MOST_LISTED] {
     l
 }
 
-fn print(answers: [u8; STEPS]) {
-    let mut i: usize = 0;
-    while i < STEPS {
-        io::write_all(STDOUT_FILENO, b" ");
-        io::print_decimal(STDOUT_FILENO, answers[i] as u64);
-        i += 1;
+fn print(rt: &impl Print, answers: [u8; STEPS]) -> io::Result<()> {
+    for answer in answers {
+        print!(rt; " {answer}")?;
     }
+    Ok(())
 }
 
-pub fn show() {
+pub fn show(rt: &impl Print) -> io::Result<()> {
     let started = run::start(3, 1, 0, 0);
     let fresh = started.run;
     let mut answers = [0; STEPS];
     let z = take_list(fresh, morning(), STEPS, &mut answers);
     let whole = z.whole;
-    io::write_all(STDOUT_FILENO, b"a list of 14 steps:");
+    print!(rt; "a list of 14 steps:")?;
     match whole {
-        Whole::NoRoom => {
-            io::write_all(STDOUT_FILENO, b" no room");
-        }
-        Whole::Taken => {
-            print(answers);
-        }
+        Whole::NoRoom => print!(rt; " no room")?,
+        Whole::Taken => print(rt, answers)?,
     }
-    io::write_all(STDOUT_FILENO, b"\n");
+    println!(rt; "")
 }

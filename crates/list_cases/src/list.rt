@@ -8,6 +8,7 @@ use super::tally::Tally;
 use super::three::Three;
 use super::{show, three};
 use run::Run;
+use std::io;
 
 fn pieces(s: &[u8], from: usize, begun: Three, most: usize) -> Tally
     requires from_in_bounds { (from ≤ length s.now) × (length s.now ≤ most_list_bytes) × (0 < most) × (most ≤ most_listed) }
@@ -23,25 +24,32 @@ fn pieces(s: &[u8], from: usize, begun: Three, most: usize) -> Tally
     t.tally
 }
 
-fn in_pieces(name: &[u8], s: &[u8], from: usize, run: Run, most: usize)
+fn in_pieces(
+    rt: &impl Print,
+    name: &str,
+    s: &[u8],
+    from: usize,
+    run: Run,
+    most: usize,
+) -> io::Result<()>
     requires { (from ≤ length s.now) × (length s.now ≤ most_list_bytes) × (0 < most) × (most ≤ most_listed) }
 {
-    show::list(name, most, pieces(s, from, three::begin(run), most));
+    show::list(rt, name, most, pieces(s, from, three::begin(run), most))
 }
 
 // A list is held whole, in a buffer of `most_list_bytes`, so that its steps can be counted.
-pub fn compare(name: &[u8], s: &[u8])
+pub fn compare(rt: &impl Print, name: &str, s: &[u8]) -> io::Result<()>
     requires { length s.now ≤ most_list_bytes }
 {
     let head = cases::begin(s);
     let from = head.from;
     let fresh = head.run;
     if head.planned {
-        in_pieces(name, s, from, fresh, 1);
-        in_pieces(name, s, from, fresh, 7);
-        in_pieces(name, s, from, fresh, 255);
-        in_pieces(name, s, from, fresh, 256);
+        in_pieces(rt, name, s, from, fresh, 1)?;
+        in_pieces(rt, name, s, from, fresh, 7)?;
+        in_pieces(rt, name, s, from, fresh, 255)?;
+        in_pieces(rt, name, s, from, fresh, 256)
     } else {
-        show::no_plan(name);
+        show::no_plan(rt, name)
     }
 }

@@ -14,32 +14,27 @@ mod tally;
 mod three;
 mod told;
 
+use cases::read_full;
+use std::rt::Files;
+use std::{env, fs, io};
+
 // A list that is longer than the buffer would be cut, and its counts would show that.
-fn one(i: usize) {
-    let mut path = io::buffer();
-    let n = os::arg(i, &mut path);
-    if os::errno() != 0 {
-        os::fail(b"argument");
-        return;
+fn one(rt: &(impl Files + Print + Eprint), path: &str) -> io::Result<()> {
+    match fs::open(rt, path) {
+        Ok(file) => {
+            let mut list = file;
+            let mut bytes = cases::buffer();
+            let len = read_full(&mut list, &mut bytes);
+            list::compare(rt, path, &bytes[..len])
+        }
+        Err(e) => eprintln!(rt; "list: {e}"),
     }
-    let fd = os::open_read(&path[..n]);
-    if fd < 0 {
-        os::fail(b"list");
-        return;
-    }
-    let mut bytes = io::large_buffer();
-    let len = io::read_full(fd, &mut bytes);
-    libc::close(fd);
-    list::compare(&path[..n], &bytes[..len]);
 }
 
-fn main() {
-    let n = os::arg_count();
-    let mut i: usize = 1;
-    while i < n {
-        one(i);
-        i += 1;
+fn main(rt: HostRuntime) -> io::Result<()> {
+    for path in env::args(&rt)?.skip(1) {
+        one(&rt, path.as_str())?;
     }
-    edges::all();
-    example::show();
+    edges::all(&rt)?;
+    example::show(&rt)
 }

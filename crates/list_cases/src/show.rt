@@ -1,67 +1,40 @@
 // What the program prints: a line for each list and size of pieces, and one for each edge.
 use super::tally::Tally;
-use libc::STDOUT_FILENO;
+use std::io;
 
-fn word(s: &[u8]) {
-    io::write_all(STDOUT_FILENO, s);
+pub fn no_plan(rt: &impl Print, name: &str) -> io::Result<()> {
+    println!(rt; "{name}: NO PLAN")
 }
 
-fn number(n: u64) {
-    io::print_decimal(STDOUT_FILENO, n);
-}
-
-pub fn no_plan(name: &[u8]) {
-    word(name);
-    word(b": NO PLAN\n");
-}
-
-pub fn list(name: &[u8], most: usize, t: Tally) {
-    word(name);
-    word(b": ");
-    number(t.steps as u64);
-    word(b" steps in pieces of ");
-    number(most as u64);
-    if t.differs == 0 {
-        word(b", agree\n");
+pub fn list(rt: &impl Print, name: &str, most: usize, t: Tally) -> io::Result<()> {
+    let steps = t.steps;
+    let piece = t.differs;
+    print!(rt; "{name}: {steps} steps in pieces of {most}")?;
+    if piece == 0 {
+        println!(rt; ", agree")
     } else {
-        word(b", PIECE ");
-        number(t.differs as u64);
-        word(b" DIFFERS\n");
+        println!(rt; ", PIECE {piece} DIFFERS")
     }
 }
 
-pub fn asked(name: &[u8], count: usize, places: usize) {
-    word(name);
-    word(b" (");
-    number(count as u64);
-    word(b" steps, ");
-    number(places as u64);
-    word(b" places");
+pub fn asked(rt: &impl Print, name: &str, count: usize, places: usize) -> io::Result<()> {
+    print!(rt; "{name} ({count} steps, {places} places")
 }
 
-pub fn records(len: usize) {
-    word(b", ");
-    number(len as u64);
-    word(b" records lent");
+pub fn records(rt: &impl Print, len: usize) -> io::Result<()> {
+    print!(rt; ", {len} records lent")
 }
 
 // What was checked is said only where it holds.
-pub fn came(n: u64, holds: bool, checked: &[u8]) {
-    word(b"): ");
-    number(n);
+pub fn came(rt: &impl Print, n: u64, holds: bool, checked: &str) -> io::Result<()> {
+    print!(rt; "): {n}, ")?;
     if holds {
-        word(b", ");
-        word(checked);
-        word(b"\n");
+        println!(rt; "{checked}")
     } else {
-        word(b", DIFFERS\n");
+        println!(rt; "DIFFERS")
     }
 }
 
-pub fn refused(count: usize, n: u64) {
-    word(b"the edges' list: ");
-    number(count as u64);
-    word(b" steps, ");
-    number(n);
-    word(b" refused\n");
+pub fn refused(rt: &impl Print, count: usize, n: u64) -> io::Result<()> {
+    println!(rt; "the edges' list: {count} steps, {n} refused")
 }

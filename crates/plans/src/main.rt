@@ -5,9 +5,9 @@ ghost use Rattle.std.specs.Prelude.{◌≡◌};
 ghost use Rattle.plan.specs.Rule.{plan_of};
 ghost use Rattle.plans.specs.Worth.{affords as affords_of, worth as worth_of};
 
-use libc::STDOUT_FILENO;
 use limits::{FEWEST_CABINETS, MOST_CABINETS};
 use plan::{Plan, Planned, Profile};
+use std::io;
 
 // Whether these numbers make a plan that needs no more than so many stores.
 fn affords(n: u64, k: u64, r: u64, b: u64, stores: u8) -> bool
@@ -42,78 +42,72 @@ fn is_worth(p: Plan) -> bool
     true
 }
 
-fn cell(number: u8) {
-    io::write_all(STDOUT_FILENO, b" ");
-    io::print_decimal(STDOUT_FILENO, number as u64);
-    io::write_all(STDOUT_FILENO, b" |");
+fn cell(rt: &impl Print, number: u8) -> io::Result<()> {
+    print!(rt; " {number} |")
 }
 
-fn profile_cell(profile: Profile) {
+fn profile_cell(rt: &impl Print, profile: Profile) -> io::Result<()> {
     match profile {
-        Profile::Forgetful => {
-            io::write_all(STDOUT_FILENO, b" forgetful |");
-        }
-        Profile::Store => {
-            io::write_all(STDOUT_FILENO, b" store |");
-        }
+        Profile::Forgetful => print!(rt; " forgetful |"),
+        Profile::Store => print!(rt; " store |"),
     }
 }
 
-fn row(p: Plan) {
-    let profile = p.profile;
-    io::write_all(STDOUT_FILENO, b"|");
-    cell(p.n);
-    cell(p.k);
-    cell(p.r);
-    cell(p.b);
-    profile_cell(profile);
-    cell(p.stores);
-    cell(p.write);
-    cell(p.read);
-    io::write_all(STDOUT_FILENO, b"\n");
+fn row(rt: &impl Print, p: Plan) -> io::Result<()> {
+    print!(rt; "|")?;
+    cell(rt, p.n)?;
+    cell(rt, p.k)?;
+    cell(rt, p.r)?;
+    cell(rt, p.b)?;
+    profile_cell(rt, p.profile)?;
+    cell(rt, p.stores)?;
+    cell(rt, p.write)?;
+    cell(rt, p.read)?;
+    println!(rt; "")
 }
 
 // A line is shown in two passes: first its plans without stores, then those with.
-fn row_if_worth(answer: Planned, stored: bool) {
+fn row_if_worth(rt: &impl Print, answer: Planned, stored: bool) -> io::Result<()> {
     match answer {
-        Planned::OutOfRange => {}
-        Planned::TooSmall => {}
+        Planned::OutOfRange => Ok(()),
+        Planned::TooSmall => Ok(()),
         Planned::Accepted(p) => {
-            if (p.stores > 0) == stored {
-                if is_worth(p) {
-                    row(p);
-                }
+            if (p.stores > 0) == stored && is_worth(p) {
+                row(rt, p)
+            } else {
+                Ok(())
             }
         }
     }
 }
 
-fn over_restarting(n: u64, k: u64, r: u64, stored: bool) {
+fn over_restarting(rt: &impl Print, n: u64, k: u64, r: u64, stored: bool) -> io::Result<()> {
     for b in 0..=n {
-        row_if_worth(plan::choose(n, k, r, b), stored);
+        row_if_worth(rt, plan::choose(n, k, r, b), stored)?;
     }
+    Ok(())
 }
 
-fn over_rolling(n: u64, k: u64, stored: bool) {
+fn over_rolling(rt: &impl Print, n: u64, k: u64, stored: bool) -> io::Result<()> {
     for r in 0..=k {
-        over_restarting(n, k, r, stored);
+        over_restarting(rt, n, k, r, stored)?;
     }
+    Ok(())
 }
 
-fn over_faulty(n: u64, stored: bool) {
+fn over_faulty(rt: &impl Print, n: u64, stored: bool) -> io::Result<()> {
     for k in 0..=n {
-        over_rolling(n, k, stored);
+        over_rolling(rt, n, k, stored)?;
     }
+    Ok(())
 }
 
-fn main() {
-    io::write_all(
-        STDOUT_FILENO,
-        b"| n | k | r | b | Profile | Stores | Write quorum | Read quorum |\n",
-    );
-    io::write_all(STDOUT_FILENO, b"|---|---|---|---|---|---|---|---|\n");
+fn main(rt: HostRuntime) -> io::Result<()> {
+    println!(rt; "| n | k | r | b | Profile | Stores | Write quorum | Read quorum |")?;
+    println!(rt; "|---|---|---|---|---|---|---|---|")?;
     for n in FEWEST_CABINETS as u64..=MOST_CABINETS as u64 {
-        over_faulty(n, false);
-        over_faulty(n, true);
+        over_faulty(&rt, n, false)?;
+        over_faulty(&rt, n, true)?;
     }
+    Ok(())
 }

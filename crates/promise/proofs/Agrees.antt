@@ -81,7 +81,7 @@ module _ (run : Run) (s : Step) where
     -- the part ends, or the reply is counted
     part_ok : (t : Bool) (how : Ending) (e : Entry) (w : Work) (b d : Entry)
         → Ok (cond t (ended m.client j c.operation how e w b) (counted m.client j c h d))
-    part_ok true how e w b d = ended_ok _ how e
+    part_ok true how e w b d = ended_ok (put_back run (ended m.client j c.operation how e w b)).run how e
     part_ok false how e w b d = refl
 
     hear_ok : (t : Told) → Ok (hear_by t plan m.client j c h)

@@ -54,7 +54,8 @@ marked_most_one i p [] x = omega arith
 marked_most_one i zero (y ∷ l) x = omega (arith, one_at_most x.marked, others_past (i + 0) (suc i) l (omega arith))
 marked_most_one i (suc p) (y ∷ l) x =
     let here : i + suc p ≡ suc i + p = omega arith in
-    rw (ne_eqb i (i + suc p) (omega arith), here) (omega (arith, marked_most_one (suc i) p l x))
+    rw (ne_eqb i (i + suc p) (omega arith))
+    (omega (arith, marked_most_one (suc i) p l x, ap (λ (n : ℕ). others_from n (suc i) l) here))
 
 -- ---- what is done to a cabinet
 

@@ -29,8 +29,9 @@ sent_why run z c p Work.SecondRead e o = (read, has_of (client_at run c).heard, 
 pub sim_send : (Quorum : (ℕ → Bool) → Type 0) (run : Run) (c p j : ℕ) → standing_of (client_at run c).work ≡ Standing.Busy
     → Move Quorum (view run) (view (changed run (Change.OfSlot j (request_slot c p (client_at run c))))) nothing
 sim_send Quorum run c p j o =
+    let after : View = view (changed run (Change.OfSlot j (request_slot c p (client_at run c)))) in
     by_slot Quorum run j (request_slot c p (client_at run c))
-    (λ d n q b k. named (view run) _ (request_of c p (client_at run c)) d n q b k (sent_why run _ c p (client_at run c).work refl o))
+    (λ d n q b k. named (view run) after (request_of c p (client_at run c)) d n q b k (sent_why run after c p (client_at run c).work refl o))
 
 -- ---- a slot is emptied
 
@@ -63,8 +64,9 @@ module _ (Quorum : (ℕ → Bool) → Type 0) (run : Run) (j : ℕ) (m : Message
       (view (changed run (Change.OfSlot j (reply_slot m (Body.TellStamp (present_of (cabinet_at run m.cabinet)).stamp))))) nothing
   unfolding view
   sim_tell_stamp bd =
+      let after : View = view (changed run (Change.OfSlot j (reply_slot m (Body.TellStamp (present_of (cabinet_at run m.cabinet)).stamp)))) in
       by_slot Quorum run j (reply_slot m (Body.TellStamp (present_of (cabinet_at run m.cabinet)).stamp))
-      (λ c n q b k. named (view run) _ (reply (Body.TellStamp (present_of (cabinet_at run m.cabinet)).stamp)) c n q b k
+      (λ c n q b k. named (view run) after (reply (Body.TellStamp (present_of (cabinet_at run m.cabinet)).stamp)) c n q b k
       (asked (ap talk_of bd), refl, answers, present_of (cabinet_at run m.cabinet), (0, refl), refl))
 
   pub sim_tell_entry : m.body ≡ Body.AskEntry
@@ -72,6 +74,7 @@ module _ (Quorum : (ℕ → Bool) → Type 0) (run : Run) (j : ℕ) (m : Message
       (view (changed run (Change.OfSlot j (reply_slot m (Body.TellEntry (present_of (cabinet_at run m.cabinet))))))) nothing
   unfolding view
   sim_tell_entry bd =
+      let after : View = view (changed run (Change.OfSlot j (reply_slot m (Body.TellEntry (present_of (cabinet_at run m.cabinet)))))) in
       by_slot Quorum run j (reply_slot m (Body.TellEntry (present_of (cabinet_at run m.cabinet))))
-      (λ c n q b k. named (view run) _ (reply (Body.TellEntry (present_of (cabinet_at run m.cabinet)))) c n q b k
+      (λ c n q b k. named (view run) after (reply (Body.TellEntry (present_of (cabinet_at run m.cabinet)))) c n q b k
       (asked (ap talk_of bd), refl, answers, (0, refl)))

@@ -1,8 +1,8 @@
 // Rehearses the step list on standard input.
 #![tactic(auto)]
 
-use libc::STDIN_FILENO;
+use std::io;
 
-fn main() {
-    stream::rehearse(STDIN_FILENO);
+fn main(rt: HostRuntime) -> io::Result<()> {
+    stream::rehearse(&mut rt.stdin(), &mut rt.stdout())
 }

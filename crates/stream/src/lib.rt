@@ -1,13 +1,14 @@
-// The rehearsal of what a descriptor gives, on standard output: read, feed, write, in parts, so that memory does not grow with the input.
+// The rehearsal of what a reader gives, on a writer: read, feed, write, in parts, so that memory does not grow with the input.
 #![tactic(auto)]
 
 ghost use Rattle.std.specs.Prelude.{◌≡◌, ◌+◌, ◌≤◌, ◌<◌, ◌^◌, length};
 ghost use Rattle.stream.specs.Buffers.{part_room, out_room};
 ghost use Rattle.transcript.specs.Machine.{Whole, mach_of};
 
-use libc::STDOUT_FILENO;
 use print::ROOM;
 use run::Run;
+use std::io;
+use std::io::{Read, Write};
 use transcript::{Kept, LINE_ROOM, Phase, feed, finish, fresh};
 
 // What one read takes at most. The run is copied a few times for each part, so that smaller ones cost time; larger ones cost memory.
@@ -18,10 +19,10 @@ pub const OUT_ROOM: usize = ROOM * (PART_ROOM + 1);
 pub const MOST_READS: u64 = 1_000_000_000_000;
 
 // What is kept, whether there is more to read, and whether the writes went through.
-#[derive(Clone, Copy)]
+#[derive(Drop)]
 pub struct Turn {
     pub more: bool,
-    pub sound: bool,
+    pub sound: io::Result<()>,
     pub kept: Kept,
     pub run: Run,
 }
@@ -36,9 +37,20 @@ fn goes_on(p: Phase) -> bool {
     }
 }
 
+// How many bytes one read put at the start of `part`: none where the input has ended, and none where the read failed.
+fn got<R: Read>(input: &mut R, part: &mut [u8]) -> usize
+    ensures { result ≤ length part.new }
+{
+    match input.read(part) {
+        Ok(n) => n,
+        Err(_) => 0,
+    }
+}
+
 // One read, and one write of all that is said of them. A read that fails ends the input; a write that fails ends the program.
-fn one_turn(
-    fd: i32,
+fn one_turn<R: Read, W: Write>(
+    input: &mut R,
+    output: &mut W,
     part: &mut [u8],
     line: &mut [u8; LINE_ROOM],
     out: &mut [u8],
@@ -53,86 +65,82 @@ fn one_turn(
     ensures at_value_2 { (result.kept.at ≡ 0) × (result.kept.row ≤ kept.row + part_room) }
     ensures whole_2 { Whole (mach_of result.kept line.new result.run) }
 {
-    let got = libc::read(fd, part);
-    if got <= 0 {
+    let n = got(input, part);
+    if n == 0 {
         return Turn {
             more: false,
-            sound: true,
+            sound: Ok(()),
             kept: kept,
             run: run,
         };
     }
-    let n = io::count(got, part);
     let f = feed(&part[..n], line, out, kept, run);
     let k = f.kept;
     let next = f.run;
     let at = k.at;
     let p = k.phase;
-    let row = k.row;
-    let len = k.len;
-    let sound = io::write_all(STDOUT_FILENO, &out[..at]);
-    let more = goes_on(p);
+    let sound = output.write_all(&out[..at]);
     Turn {
-        more: more,
+        more: goes_on(p),
         sound: sound,
         kept: Kept {
-            len: len,
+            len: k.len,
             at: 0,
             phase: p,
-            row: row,
+            row: k.row,
         },
         run: next,
     }
 }
 
-fn all_turns(fd: i32, part: &mut [u8], line: &mut [u8; LINE_ROOM], out: &mut [u8]) -> Turn
+fn all_turns<R: Read, W: Write>(
+    input: &mut R,
+    output: &mut W,
+    part: &mut [u8],
+    line: &mut [u8; LINE_ROOM],
+    out: &mut [u8],
+) -> Turn
     requires part_len_bound { length part.old ≤ part_room }
     requires out_len { length out.old ≡ out_room }
     ensures at_value { (result.kept.at ≡ 0) × (result.kept.row + 1 < 2 ^ 64) }
     ensures whole { Whole (mach_of result.kept line.new result.run) }
 {
     let f = fresh();
-    let mut kept = f.kept;
-    let mut run = f.run;
-    let mut more = true;
-    let mut sound = true;
+    let mut t = Turn {
+        more: true,
+        sound: Ok(()),
+        kept: f.kept,
+        run: f.run,
+    };
     let mut left = MOST_READS;
-    while left > 0 && more && sound {
-        let t = one_turn(fd, part, line, out, kept, run);
-        let k = t.kept;
-        let r = t.run;
-        kept = k;
-        run = r;
-        more = t.more;
-        sound = t.sound;
+    while left > 0 && t.more && t.sound.is_ok() {
+        t = one_turn(input, output, part, line, out, t.kept, t.run);
         left -= 1;
     }
-    Turn {
-        more: more,
-        sound: sound,
-        kept: kept,
-        run: run,
-    }
+    t
 }
 
-// All that a descriptor gives, and its end.
-fn all_bytes(fd: i32, part: &mut [u8], line: &mut [u8; LINE_ROOM], out: &mut [u8])
+// All that a reader gives, and its end.
+fn all_bytes<R: Read, W: Write>(
+    input: &mut R,
+    output: &mut W,
+    part: &mut [u8],
+    line: &mut [u8; LINE_ROOM],
+    out: &mut [u8],
+) -> io::Result<()>
     requires part_len_bound { length part.old ≤ part_room }
     requires out_len { length out.old ≡ out_room }
 {
-    let t = all_turns(fd, part, line, out);
-    if t.sound {
-        let k = t.kept;
-        let r = t.run;
-        let end = finish(line, out, k, r);
-        io::write_all(STDOUT_FILENO, &out[..end]);
-    }
+    let t = all_turns(input, output, part, line, out);
+    t.sound?;
+    let end = finish(line, out, t.kept, t.run);
+    output.write_all(&out[..end])
 }
 
-// The buffers of the rehearsal of a descriptor. They are made apart from their use, since a proof that reads their length must not count them out.
-pub fn rehearse(fd: i32) {
+// The buffers of the rehearsal. They are made apart from their use, since a proof that reads their length must not count them out.
+pub fn rehearse<R: Read, W: Write>(input: &mut R, output: &mut W) -> io::Result<()> {
     let mut part = [0u8; PART_ROOM];
     let mut out = [0u8; OUT_ROOM];
     let mut line = [0u8; LINE_ROOM];
-    all_bytes(fd, &mut part, &mut line, &mut out);
+    all_bytes(input, output, &mut part, &mut line, &mut out)
 }

@@ -17,7 +17,7 @@ returns-in-Running c =
     let pre = c.requires in
     let no_step = c.no_step in
     let due : is_running c.args.kept.phase ≡ true = rw c.in-Running.is in
-    rw (c.in-Running.is, pre.0 due) no_step.ensures
+    rw (c.in-Running.is, pre.over_value due) no_step.ensures
 
 pub returns-in-Ended : goal.returns-in-Ended
 returns-in-Ended c =

@@ -15,7 +15,7 @@ returns-then-len-gt-MOST_LINE c =
     rw (← held_over args.kept.len args.line.now args.line.now if1.true) act.ensures
 
 pub slice_bounds-steps-end : goal.slice_bounds-steps-end
-slice_bounds-steps-end c = sym (length-take-le _ _ (omega (arith, c.s-then-is_running-2-1.given.0)))
+slice_bounds-steps-end c = sym (length-take-le _ _ (omega (arith, c.s-then-is_running-2-1.given)))
 
 pub steps-went-requires : goal.steps-went-requires
 steps-went-requires c =
@@ -25,9 +25,8 @@ steps-went-requires c =
     let says_running = c.is_running in
     let if2 = c.if-is_running in
     let pre = c.requires in
-    let o = lf_one args.kept args.line.now args.run (simp length-set at s4.given.0) if1.false (sym says_running.ensures ∙ if2.true) pre.1.1 in
-    let both = (omega (arith, o), (omega (arith, o), running_sound args.kept.phase args.run (sym says_running.ensures ∙ if2.true) pre.1.1.0)) in
-    record { s_in_bounds = both.0; s_bound = both.1; run_value = both.2 }
+    let o = lf_one args.kept args.line.now args.run (simp length-set at s4.given) if1.false (sym says_running.ensures ∙ if2.true) pre.whole in
+    record { s_in_bounds = omega (arith, o); s_bound = omega (arith, o); run_value = running_sound args.kept.phase args.run (sym says_running.ensures ∙ if2.true) pre.whole.0 }
 
 pub returns-then-is_running : goal.returns-then-is_running
 returns-then-is_running c =
@@ -38,11 +37,11 @@ returns-then-is_running c =
     let if2 = c.if-is_running in
     let pre = c.requires in
     let steps = c.steps-went in
-    lf_acted args.kept args.line.now args.run (simp length-set at s4.given.0) if1.false
-    (sym says_running.ensures ∙ if2.true) pre.1.1 _ _ steps.result steps.ensures
+    lf_acted args.kept args.line.now args.run (simp length-set at s4.given) if1.false
+    (sym says_running.ensures ∙ if2.true) pre.whole _ _ steps.result steps.ensures
 
 pub slice_bounds-l-end : goal.slice_bounds-l-end
-slice_bounds-l-end c = sym (length-take-le _ _ (omega (arith, c.s-3-1.given.0)))
+slice_bounds-l-end c = sym (length-take-le _ _ (omega (arith, c.s-3-1.given)))
 
 pub slice_bounds-act-end : goal.slice_bounds-act-end
 slice_bounds-act-end c = sym (length-take-le _ _ c.trim-n.ensures.1)
@@ -51,8 +50,7 @@ pub act-requires-2 : goal.act-requires-2
 act-requires-2 c =
     let says_running = c.is_running in
     let if2 = c.if-is_running in
-    let both = (λ e. sym (sym e ∙ sym says_running.ensures ∙ if2.false), (omega arith, omega arith)) in
-    record { over_value = both.0; room_in_bounds = both.1; row_bound = both.2 }
+    record { over_value = λ e. sym (sym e ∙ sym says_running.ensures ∙ if2.false); room_in_bounds = omega arith; row_bound = omega arith }
 
 pub returns : goal.returns
 returns c =

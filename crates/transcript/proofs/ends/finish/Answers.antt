@@ -15,9 +15,8 @@ returns-then-len-gt-MOST_LINE c =
     let args = c.args in
     let if1 = c.if-len-gt-MOST_LINE in
     let act = c.act-f in
-    let both = rw (← end_over args.kept.phase args.kept.row args.run args.kept.len args.line.now args.line.now if1.true)
-    (act.ensures.4, (act.ensures.5, act.ensures.6)) in
-    record { out_after = both.0; value = both.1 }
+    let e = end_over args.kept.phase args.kept.row args.run args.kept.len args.line.now args.line.now if1.true in
+    record { out_after = rw (← e) act.ensures.4; value = (rw (← e) act.ensures.5, act.ensures.6) }
 
 pub last_step-requires : goal.last_step-requires
 last_step-requires c =
@@ -26,22 +25,19 @@ last_step-requires c =
     let says_running = c.is_running in
     let if3 = c.if-is_running in
     let pre = c.requires in
-    let both = ((if2.true, if1.false, sym says_running.ensures ∙ if3.true), (omega arith, (omega arith, pre.1.1))) in
-    record { len_nonzero = both.0; room_in_bounds = both.1; row_bound = both.2; whole = both.3 }
+    record { len_nonzero = (if2.true, if1.false, sym says_running.ensures ∙ if3.true); room_in_bounds = omega arith; row_bound = omega arith; whole = pre.whole }
 
 pub returns-then-is_running : goal.returns-then-is_running
-returns-then-is_running c = let both = c.last_step.ensures in
-    record { out_after = both.0; value = both.1 }
+returns-then-is_running c = record { out_after = c.last_step.ensures.out_after; value = c.last_step.ensures.value }
 
 pub slice_bounds-act-end : goal.slice_bounds-act-end
-slice_bounds-act-end c = sym (length-take-le _ _ (omega (arith, c.s-then-len-gt0-2-1.given.0)))
+slice_bounds-act-end c = sym (length-take-le _ _ (omega (arith, c.s-then-len-gt0-2-1.given)))
 
 pub act-f-requires-then-len-gt0 : goal.act-f-requires-then-len-gt0
 act-f-requires-then-len-gt0 c =
     let says_running = c.is_running in
     let if3 = c.if-is_running in
-    let both = (λ e. sym (sym e ∙ sym says_running.ensures ∙ if3.false), (omega arith, omega arith)) in
-    record { over_value = both.0; room_in_bounds = both.1; row_bound = both.2 }
+    record { over_value = λ e. sym (sym e ∙ sym says_running.ensures ∙ if3.false); room_in_bounds = omega arith; row_bound = omega arith }
 
 pub returns-then-len-gt0 : goal.returns-then-len-gt0
 returns-then-len-gt0 c =
@@ -50,38 +46,34 @@ returns-then-len-gt0 c =
     let if1 = c.if-len-gt-MOST_LINE in
     let if2 = c.if-len-gt0 in
     let act2 = c.act-f-then-len-gt0 in
-    let both = rw
-    (← end_line_is args.kept.phase args.kept.row args.run args.kept.len args.line.now s4.given.0 if1.false if2.true)
-    (act2.ensures.4, (act2.ensures.5, act2.ensures.6)) in
-    record { out_after = both.0; value = both.1 }
+    let e = end_line_is args.kept.phase args.kept.row args.run args.kept.len args.line.now s4.given if1.false if2.true in
+    record { out_after = rw (← e) act2.ensures.4; value = (rw (← e) act2.ensures.5, act2.ensures.6) }
 
 pub enum_told-1 : goal.enum_told-1
 enum_told-1 c = search rules
 
 pub act-f-requires-in-Header : goal.act-f-requires-in-Header
-act-f-requires-in-Header c = let both = (λ e. absurd (let z : ◌≡◌ {A = ℕ} 0 1 = cc (sym e ∙ ap is_running c.in-Header.is) in omega arith), (omega arith, omega arith)) in
-    record { over_value = both.0; room_in_bounds = both.1; row_bound = both.2 }
+act-f-requires-in-Header c = record { over_value = λ e. absurd (let z : ◌≡◌ {A = ℕ} 0 1 = cc (sym e ∙ ap is_running c.in-Header.is) in omega arith); room_in_bounds = omega arith; row_bound = omega arith }
 
 pub returns-in-Header : goal.returns-in-Header
 returns-in-Header c =
     let args = c.args in
     let if2 = c.if-len-gt0 in
     let act3 = c.act-f-in-Header in
-    let both = rw (← end_first args.kept.phase args.kept.row args.run args.kept.len args.line.now if2.false c.in-Header.is)
-    (act3.ensures.4, (act3.ensures.5, act3.ensures.6)) in
-    record { out_after = both.0; value = both.1 }
+    let e = end_first args.kept.phase args.kept.row args.run args.kept.len args.line.now if2.false c.in-Header.is in
+    record { out_after = rw (← e) act3.ensures.4; value = (rw (← e) act3.ensures.5, act3.ensures.6) }
 
 pub returns-in-Planning : goal.returns-in-Planning
 returns-in-Planning c = let n : (c.args.kept.phase ≡ Phase.Header → ⊥) = λ h. let z : ◌≡◌ {A = ℕ} 0 1 = cc (sym h ∙ c.in-Planning.is) in omega arith in
-    let both = rw (← end_none c.args.kept.phase c.args.kept.row c.args.run c.args.kept.len c.args.line.now c.if-len-gt0.false n) (put_none _ _, (omega arith, omega arith)) in
-    record { out_after = both.0; value = both.1 }
+    let e = end_none c.args.kept.phase c.args.kept.row c.args.run c.args.kept.len c.args.line.now c.if-len-gt0.false n in
+    record { out_after = rw (← e) (put_none _ _); value = (rw (← e) (omega arith), omega arith) }
 
 pub returns-in-Running : goal.returns-in-Running
 returns-in-Running c = let n : (c.args.kept.phase ≡ Phase.Header → ⊥) = λ h. let z : ◌≡◌ {A = ℕ} 0 1 = cc (sym h ∙ c.in-Running.is) in omega arith in
-    let both = rw (← end_none c.args.kept.phase c.args.kept.row c.args.run c.args.kept.len c.args.line.now c.if-len-gt0.false n) (put_none _ _, (omega arith, omega arith)) in
-    record { out_after = both.0; value = both.1 }
+    let e = end_none c.args.kept.phase c.args.kept.row c.args.run c.args.kept.len c.args.line.now c.if-len-gt0.false n in
+    record { out_after = rw (← e) (put_none _ _); value = (rw (← e) (omega arith), omega arith) }
 
 pub returns-in-Ended : goal.returns-in-Ended
 returns-in-Ended c = let n : (c.args.kept.phase ≡ Phase.Header → ⊥) = λ h. let z : ◌≡◌ {A = ℕ} 0 1 = cc (sym h ∙ c.in-Ended.is) in omega arith in
-    let both = rw (← end_none c.args.kept.phase c.args.kept.row c.args.run c.args.kept.len c.args.line.now c.if-len-gt0.false n) (put_none _ _, (omega arith, omega arith)) in
-    record { out_after = both.0; value = both.1 }
+    let e = end_none c.args.kept.phase c.args.kept.row c.args.run c.args.kept.len c.args.line.now c.if-len-gt0.false n in
+    record { out_after = rw (← e) (put_none _ _); value = (rw (← e) (omega arith), omega arith) }

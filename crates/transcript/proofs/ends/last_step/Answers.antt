@@ -6,16 +6,15 @@ use native.Mathlib.Omega.{arith}
 use Rattle.transcript.proofs.ends.last_step.Goals as goal
 
 pub slice_bounds-steps-end : goal.slice_bounds-steps-end
-slice_bounds-steps-end c = sym (length-take-le _ _ (omega (arith, c.close-n.ensures.1, c.s-2-1.given.0)))
+slice_bounds-steps-end c = sym (length-take-le _ _ (omega (arith, c.close-n.ensures.1, c.s-2-1.given)))
 
 pub steps-went-requires : goal.steps-went-requires
 steps-went-requires c =
     let args = c.args in
     let close = c.close-n in
     let pre = c.requires in
-    let o = crlf_one args.kept args.line.now args.run close.ensures.2 pre.0.1 pre.0.2 pre.1.1.1 _ close.ensures.0 in
-    let both = (omega (arith, o), (omega (arith, o), running_sound args.kept.phase args.run pre.0.2 pre.1.1.1.0)) in
-    record { s_in_bounds = both.0; s_bound = both.1; run_value = both.2 }
+    let o = crlf_one args.kept args.line.now args.run close.ensures.2 pre.len_nonzero.1 pre.len_nonzero.2 pre.whole _ close.ensures.0 in
+    record { s_in_bounds = omega (arith, o); s_bound = omega (arith, o); run_value = running_sound args.kept.phase args.run pre.len_nonzero.2 pre.whole.0 }
 
 pub returns : goal.returns
 returns c =
@@ -23,5 +22,5 @@ returns c =
     let close = c.close-n in
     let pre = c.requires in
     let steps = c.steps-went in
-    let q = crlf_ended args.kept args.line.now args.run close.ensures.2 pre.0.1 pre.0.2 pre.1.1.1 _ _ _ steps.result pre.0.0 close.ensures.0 steps.ensures in
+    let q = crlf_ended args.kept args.line.now args.run close.ensures.2 pre.len_nonzero.1 pre.len_nonzero.2 pre.whole _ _ _ steps.result pre.len_nonzero.0 close.ensures.0 steps.ensures in
     record { out_after = q.0.0; value = (q.0.1, q.1) }

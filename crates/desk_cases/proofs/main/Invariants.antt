@@ -1,9 +1,0 @@
--- `main` ends: its arguments run out. Assumes nothing.
-use Prim.Native.Nat.{◌-◌}
-use Rattle.desk_cases.proofs.main.Given as goal
-
-abbrev pub invariant-loop-i : goal.invariant-loop-i
-invariant-loop-i l = Unit {0}
-
-abbrev pub decreases-loop-i : goal.decreases-loop-i
-decreases-loop-i l = l.n - l.i
