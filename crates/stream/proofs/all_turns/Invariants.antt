@@ -1,13 +1,18 @@
+-- `stream::all_turns` ends: its reads are counted down. The buffer is empty before each, the rows of the reads that are left can be counted, and the
+-- state is one that is fed from the start. Assumes nothing.
+use Rattle.std.proofs.Common.{◌≡◌, ◌+◌, ◌*◌, ◌^◌, ◌<◌, ◌≤◌, length}
 use Rattle.stream.specs.Buffers.{part_room, out_room}
 use Rattle.transcript.specs.Machine.{Whole, mach_of}
-use mathlib.Core.Path.{◌≡◌}
-use lib.ListN.{length}
-use Prim.Native.Nat.{◌+◌, ◌*◌, ◌^◌, ◌<◌, ◌≤◌}
 use Rattle.stream.proofs.all_turns.Given as goal
 
 abbrev pub invariant-loop-left : goal.invariant-loop-left
-invariant-loop-left l = Whole (mach_of l.kept l.line l.run) × (l.kept.at ≡ 0) × (l.kept.row + part_room * l.left < 2 ^ 60) × (length l.part ≡ length l.initial.part)
-    × (length l.out ≡ length l.initial.out) × (length l.initial.part ≤ part_room) × (length l.initial.out ≡ out_room)
+invariant-loop-left g l = record {
+  whole : Whole (mach_of l.t.kept l.line l.t.run);
+  empty : l.t.kept.at ≡ 0;
+  rows : l.t.kept.row + part_room * l.left < 2 ^ 60;
+  part_len : length l.part ≤ part_room;
+  out_len : length l.out ≡ out_room
+}
 
 abbrev pub decreases-loop-left : goal.decreases-loop-left
-decreases-loop-left l = l.left
+decreases-loop-left g l = l.left

@@ -7,7 +7,7 @@ use Rattle.stream.specs.Buffers.{out_room}
 use Rattle.stream.proofs.rehearse.Goals as goal
 
 pub slice_bounds-all_bytes-end-2 : goal.slice_bounds-all_bytes-end-2
-slice_bounds-all_bytes-end-2 c = sym (length-replicate {0} {A = ℕ} out_room 0)
+slice_bounds-all_bytes-end-2 g c = sym (length-replicate {0} {A = ℕ} out_room 0)
 
 pub all_bytes-requires : goal.all_bytes-requires
-all_bytes-requires c = (omega arith, length-replicate {0} {A = ℕ} out_room 0)
+all_bytes-requires g c = record { part_len_bound = omega arith; out_len = length-replicate {0} {A = ℕ} out_room 0 }
