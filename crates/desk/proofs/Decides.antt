@@ -1,6 +1,6 @@
 -- Each public contract decides, and it asks nothing of its caller: any two outcomes that it allows for the same run, table and step agree on the
--- answer, on every part of the next run and on every record of the table at exit, and what it requires always holds (`emp`). The entrances are
--- proved by a walk, so there is no `Post` to cite for them: `step_lent_says` and `step_local_says` hold the contract that the checker reads in src/ to the
+-- answer, on every part of the next run and on every record of the table at exit, and what it requires always holds (`emp`). Both entrances
+-- are cited from where the checker reads their contracts: `step_lent_says` and `step_local_says` hold the contract that the checker reads in src/ to the
 -- fact stated here, and a weaker contract is refused there; `step_lent_any` and `step_local_any` refuse one that asks for something.
 -- Assumes nothing.
 use Prim.Native.Nat.{ℕ}

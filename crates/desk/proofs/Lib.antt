@@ -1,5 +1,4 @@
 pub mod Decides
 pub mod DeskLaws
 pub mod TableLaws
-pub mod Truth
 pub mod ViewLaws

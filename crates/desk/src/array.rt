@@ -1,4 +1,4 @@
-// A table of the caller's own, lent for one step: for Rattle code that holds its records in an array. Proved by a walk, as the entrance is.
+// A table of the caller's own, lent for one step: for Rattle code that holds its records in an array.
 ghost use Rattle.std.specs.Prelude.{◌≡◌};
 ghost use Rattle.desk.specs.Desk.{local_of};
 

@@ -1,4 +1,4 @@
-// The entrance over a lent table. It is proved by a walk of its own, so all that is decided stands in `view`, by value.
+// The entrance over a lent table. All that is decided stands in `view`, by value.
 ghost use Rattle.std.specs.Prelude.{◌≡◌};
 ghost use Rattle.desk.specs.Desk.{lent_of, table_of};
 

@@ -33,13 +33,13 @@ pub struct Local {
     pub table: [Cabinet; MOST_CABINETS],
 }
 
-// The lent records, with fresh cabinets at the places past them. It is a struct because the walk of the entrance carries it by its name.
+// The lent records, with fresh cabinets at the places past them.
 #[derive(Clone, Copy)]
 pub struct Nine {
     pub records: [Cabinet; MOST_CABINETS],
 }
 
-// The one record that a step meets, and its place. It stands apart, since the walk of the entrance reads it: the type of a run is too large for that.
+// The one record that a step meets, and its place.
 #[derive(Clone, Copy)]
 pub struct Met {
     pub at: usize,

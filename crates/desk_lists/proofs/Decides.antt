@@ -1,6 +1,6 @@
 -- Each public contract decides, and it asks nothing of its caller: any two outcomes that it allows for the same run, table, steps and answers agree
 -- on the result, on every part of the next run, on every record and on every place of the answers at exit, and what it requires always holds
--- (`emp`). Both functions are proved by a walk, so there is no `Post` to cite: `list_lent_says` and `list_local_says` hold the contract that the
+-- (`emp`). Both are cited from where the checker reads their contracts: `list_lent_says` and `list_local_says` hold the contract that the
 -- checker reads in src/ to the fact stated here, and a weaker contract is refused there; `list_lent_any` and `list_local_any` refuse one that
 -- asks for something. Assumes nothing.
 use Prim.Native.Nat.{ℕ}

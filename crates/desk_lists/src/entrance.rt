@@ -1,4 +1,4 @@
-// The list over a lent table. It is proved by a walk of its own, so all that is decided stands in `records`, by value.
+// The list over a lent table. All that is decided stands in `records`, by value.
 ghost use Rattle.std.specs.Prelude.{◌≡◌};
 ghost use Rattle.desk_lists.specs.Lent.{lent_list_of};
 

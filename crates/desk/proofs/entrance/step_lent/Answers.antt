@@ -1,15 +1,13 @@
 -- `step_lent` meets its contract: a table of another length is refused; otherwise the nine records are the table's, and the one that the step
 -- met is stored, where it is one of the table's. Assumes nothing.
-use Prim.Native.Nat.{◌≤◌}
 use mathlib.Core.Logic.{◌≢◌}
-use mathlib.Core.List.{List, []}
+use mathlib.Core.List.{[]}
 use mathlib.Core.Path.{◌≡◌, sym, ap, ◌∙◌}
 use native.Mathlib.Omega.{arith}
 use lib.ListN.{length, set, drop, drop_of_length-le}
 use lib.Seq.{set_out}
 use Rattle.desk.specs.Names.{Made, Nine}
 use Rattle.desk.specs.declared.Met.{Met}
-use Rattle.desk.specs.Desk.{table_of}
 use Rattle.desk.specs.View.{made_of, served_of}
 use Rattle.desk.proofs.ViewLaws.{laid, laid_all, nine_of, made_in, made_lent, made_stored}
 use Rattle.desk.proofs.DeskLaws.{wrong_length_says}

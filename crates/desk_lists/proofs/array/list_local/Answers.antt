@@ -5,7 +5,7 @@ use mathlib.Core.Path.{◌≡◌, ap, ◌∙◌}
 use borrow.Author.Rules.{rules}
 use lib.ListN.{length, take, drop}
 use Rattle.limits.specs.Limits.{most_cabinets}
-use Rattle.desk_lists.specs.Names.{Cabinet, Listed, Local}
+use Rattle.desk_lists.specs.Names.{Local}
 use Rattle.desk_lists.specs.Lent.{lent_list_of}
 use Rattle.desk_lists.proofs.LocalLaws.{local_list_is}
 use Rattle.desk_lists.proofs.array.list_local.Goals as goal

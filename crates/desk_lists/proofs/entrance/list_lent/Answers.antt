@@ -1,6 +1,5 @@
 -- `list_lent` meets its contract: a table of another length is refused; otherwise the nine records are the table's, and what is made of them is
 -- stored where the table has its places. Assumes nothing.
-use Prim.Native.Nat.{ℕ, ◌≤◌}
 use mathlib.Core.List.{List, []}
 use mathlib.Core.Path.{◌≡◌, sym, ap, ◌∙◌}
 use native.Mathlib.Omega.{arith}
@@ -10,10 +9,10 @@ use mathlib.Core.Logic.{◌≢◌}
 use lib.ListN.{length, drop, drop_of_length-le}
 use Rattle.lists.specs.Whole.{most_listed}
 use Rattle.desk.proofs.ViewLaws.{laid, laid_all, nine_of}
-use Rattle.desk_lists.specs.Names.{Cabinet, Listed, Made, Nine}
+use Rattle.desk_lists.specs.Names.{Cabinet, Listed, Nine}
 use Rattle.desk_lists.specs.View.{made_of}
 use Rattle.desk_lists.proofs.LentLaws.{list_wrong, list_right}
-use Rattle.desk_lists.proofs.StoreLaws.{stored, storing, store_next, store_all}
+use Rattle.desk_lists.proofs.StoreLaws.{stored, storing, store_all}
 use Rattle.desk_lists.proofs.entrance.list_lent.Goals as goal
 
 pub returns-then-table-n : goal.returns-then-table-n
