@@ -1,5 +1,5 @@
 /* The cabinet rule: does an entry that is offered take the place of the one that is held?
-   Link libfirmware.a, which `rt staticlib firmware` makes for x86-64.
+   Link libfirmware.a, which `rt lib` in crates/firmware makes for x86-64.
 
    An entry is 20 bytes, laid out as in XDR (RFC 4506); each number has its most significant byte first.
 
