@@ -10,5 +10,5 @@ loop-left-init g c = record {
   empty = ap (λ (x : Fed). x.kept.at) c.fresh-f.ensures;
   rows = omega (arith, ap (λ (x : Fed). x.kept.row) c.fresh-f.ensures);
   part_len = c.requires.part_len_bound;
-  out_len = c.requires.out_len
+  out_len = c.requires.out_len;
 }

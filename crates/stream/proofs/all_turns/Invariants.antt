@@ -11,7 +11,7 @@ invariant-loop-left g l = record {
   empty : l.t.kept.at ≡ 0;
   rows : l.t.kept.row + part_room * l.left < 2 ^ 60;
   part_len : length l.part ≤ part_room;
-  out_len : length l.out ≡ out_room
+  out_len : length l.out ≡ out_room;
 }
 
 abbrev pub decreases-loop-left : goal.decreases-loop-left

@@ -1,5 +1,4 @@
 -- `steps` ends: each row ends behind where it began, and no more steps are counted than bytes are passed. Assumes nothing.
-use Prim.Native.Nat.{◌-◌}
 use native.Mathlib.Omega.{arith}
 use Rattle.desk_cases.proofs.list.steps.Goals as goal
 

@@ -1,5 +1,4 @@
 -- `piece_from` ends, and its rows are within the list: each ends behind where it began. Assumes nothing.
-use Prim.Native.Nat.{◌-◌}
 use native.Mathlib.Omega.{arith}
 use Rattle.list_cases.proofs.piece.piece_from.Goals as goal
 
