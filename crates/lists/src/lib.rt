@@ -27,6 +27,7 @@ pub struct Listed {
 }
 
 // So many steps are a list, and each has a place.
+#[tactic(auto, unfolding(crate::specs::Whole::fits))]
 pub fn fits(count: usize, places: usize) -> bool
     ensures { result ≡ fits count places }
 {

@@ -126,7 +126,8 @@ fn lead(s: &[u8], line: &mut [u8; LINE_ROOM], out: &mut [u8], kept: Kept, run: R
         if at_step(p, k.len) {
             break;
         }
-        if s[i] == b'\n' {
+        let ends = s[i] == b'\n';
+        if ends {
             let f = end_line(line, out, k, held);
             let kept = f.kept;
             let run = f.run;

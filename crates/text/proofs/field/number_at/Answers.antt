@@ -60,8 +60,8 @@ returns-else-s-eq48 c =
     let i = c.loop-i.invariant in
     number_many _ _ _ i.1 i.3 i.4 no_more (omega arith) c.if-s-eq48.false
 
-pub returns-else-i-gt1 : goal.returns-else-i-gt1
-returns-else-i-gt1 c =
+pub returns-else-several : goal.returns-else-several
+returns-else-several c =
     let no_more : first (drop c.loop-i.i c.args.s.now) ≡ [] = elim c.loop-i-test.branch [ else-loop-i-test w ↦ field_end _ _ w.loop-i-test.false | then-loop-i-test+then-b-eq-COMMA w ↦ field_comma _ _ _ w.loop-i-test.true w.wide-b.ensures.0 w.if-b-eq-COMMA.true ] in
     let i = c.loop-i.invariant in
     number_one _ _ _ i.1 i.3 i.4 no_more c.if-i-eq0.false (omega arith)

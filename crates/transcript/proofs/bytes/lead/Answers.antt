@@ -7,7 +7,7 @@ use lib.ListN.{take}
 use Prim.Native.Nat.{◌-◌}
 use native.Mathlib.Omega.{arith}
 use Rattle.transcript.proofs.bytes.lead.Goals as goal
-use Rattle.transcript.proofs.bytes.lead.Goals.{then-s-i-eq10, else-s-i-eq10}
+use Rattle.transcript.proofs.bytes.lead.Goals.{then-ends, else-ends}
 
 pub loop-i-init : goal.loop-i-init
 loop-i-init c =
@@ -28,13 +28,13 @@ loop-i-preserved c =
     let args = c.args in
     let loop = c.loop-i in
     let before = mach_of args.kept args.line.now args.run in
-    elim c.if-s-i-eq10.branch [
-      | then-s-i-eq10 w ↦
+    elim c.if-ends.branch [
+      | then-ends w ↦
           rw (w.line-is, w.out-is, w.k-is, w.held-is)
-          (going_lf args.s.now args.out.now args.kept before loop.i loop.line loop.out loop.k loop.held _ _ w.end_line-f.result loop.invariant c.loop-i-test.true w.if-s-i-eq10.true w.end_line-f.ensures)
-      | else-s-i-eq10 w ↦
+          (going_lf args.s.now args.out.now args.kept before loop.i loop.line loop.out loop.k loop.held _ _ w.end_line-f.result loop.invariant c.loop-i-test.true w.if-ends.true w.end_line-f.ensures)
+      | else-ends w ↦
           rw (w.line-is, w.out-is, w.k-is, w.held-is)
-          (going_in args.s.now args.out.now args.kept before loop.i loop.line loop.out loop.k loop.held w.push-n.result _ loop.invariant c.loop-i-test.true w.if-s-i-eq10.false w.push-n.ensures)
+          (going_in args.s.now args.out.now args.kept before loop.i loop.line loop.out loop.k loop.held w.push-n.result _ loop.invariant c.loop-i-test.true w.if-ends.false w.push-n.ensures)
     ]
 
 pub returns-after-loop-i : goal.returns-after-loop-i
@@ -51,8 +51,8 @@ returns-then-at_step c =
 pub bounds-s-i : goal.bounds-s-i
 bounds-s-i c = omega arith
 
-pub bounds-s-i-else-s-i-eq10 : goal.bounds-s-i-else-s-i-eq10
-bounds-s-i-else-s-i-eq10 c = omega arith
+pub bounds-s-i-else-ends : goal.bounds-s-i-else-ends
+bounds-s-i-else-ends c = omega arith
 
 pub overflow_add-i : goal.overflow_add-i
 overflow_add-i c = omega arith
