@@ -13,6 +13,9 @@ use std::io;
 use std::io::{Read, Write};
 use transcript::{Kept, LINE_ROOM, Phase, feed, finish, fresh};
 
+#[cfg(test)]
+mod tests;
+
 // What one read takes at most. The run is copied a few times for each part, so that smaller ones cost time; larger ones cost memory.
 pub const PART_ROOM: usize = 32_768;
 // What is said of it: a row for each of its bytes at most, and a row more, as `transcript::feed` asks.
