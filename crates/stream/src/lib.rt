@@ -1,9 +1,11 @@
 // The rehearsal of what a reader gives, on a writer: read, feed, write, in parts, so that memory does not grow with the input.
 #![tactic(auto)]
 
-ghost use Rattle.std.specs.Prelude.{◌≡◌, ◌+◌, ◌≤◌, ◌<◌, ◌^◌, length};
+ghost use Rattle.std.specs.Prelude.{◌≡◌, ◌+◌, ◌≤◌, ◌<◌, ◌^◌, length, take};
+ghost use Rattle.std.specs.Io.KnownBytes.{Consumes};
 ghost use Rattle.stream.specs.Buffers.{part_room, out_room};
-ghost use Rattle.transcript.specs.Machine.{Whole, mach_of};
+ghost use Rattle.stream.specs.Moved.{Turned, Rehearsed};
+ghost use Rattle.transcript.specs.Machine.{Whole, mach_of, start};
 
 use print::ROOM;
 use run::Run;
@@ -39,7 +41,8 @@ fn goes_on(p: Phase) -> bool {
 
 // How many bytes one read put at the start of `part`: none where the input has ended, and none where the read failed.
 fn got<R: Read>(input: &mut R, part: &mut [u8]) -> usize
-    ensures { result ≤ length part.new }
+    ensures bound { result ≤ length part.new }
+    ensures bytes { Consumes (R.remaining input.old) (R.remaining input.new) (take result part.new) }
 {
     match input.read(part) {
         Ok(n) => n,
@@ -64,6 +67,7 @@ fn one_turn<R: Read, W: Write>(
     requires whole { Whole (mach_of kept line.old run) }
     ensures at_value_2 { (result.kept.at ≡ 0) × (result.kept.row ≤ kept.row + part_room) }
     ensures whole_2 { Whole (mach_of result.kept line.new result.run) }
+    ensures turned { Turned (R.remaining input.old) (R.remaining input.new) (W.contents output.old) (W.contents output.new) (mach_of kept line.old run) (mach_of result.kept line.new result.run) result.sound }
 {
     let n = got(input, part);
     if n == 0 {
@@ -104,6 +108,7 @@ fn all_turns<R: Read, W: Write>(
     requires out_len { length out.old ≡ out_room }
     ensures at_value { (result.kept.at ≡ 0) × (result.kept.row + 1 < 2 ^ 64) }
     ensures whole { Whole (mach_of result.kept line.new result.run) }
+    ensures turned { Turned (R.remaining input.old) (R.remaining input.new) (W.contents output.old) (W.contents output.new) start (mach_of result.kept line.new result.run) result.sound }
 {
     let f = fresh();
     let mut t = Turn {
@@ -130,6 +135,7 @@ fn all_bytes<R: Read, W: Write>(
 ) -> io::Result<()>
     requires part_len_bound { length part.old ≤ part_room }
     requires out_len { length out.old ≡ out_room }
+    ensures { Rehearsed (R.remaining input.old) (R.remaining input.new) (W.contents output.old) (W.contents output.new) result }
 {
     let t = all_turns(input, output, part, line, out);
     t.sound?;
@@ -138,7 +144,9 @@ fn all_bytes<R: Read, W: Write>(
 }
 
 // The buffers of the rehearsal. They are made apart from their use, since a proof that reads their length must not count them out.
-pub fn rehearse<R: Read, W: Write>(input: &mut R, output: &mut W) -> io::Result<()> {
+pub fn rehearse<R: Read, W: Write>(input: &mut R, output: &mut W) -> io::Result<()>
+    ensures { Rehearsed (R.remaining input.old) (R.remaining input.new) (W.contents output.old) (W.contents output.new) result }
+{
     let mut part = [0u8; PART_ROOM];
     let mut out = [0u8; OUT_ROOM];
     let mut line = [0u8; LINE_ROOM];

@@ -2,11 +2,13 @@
 -- state is one that is fed from the start. Assumes nothing.
 use Rattle.std.proofs.Common.{◌≡◌, ◌+◌, ◌*◌, ◌^◌, ◌<◌, ◌≤◌, length}
 use Rattle.stream.specs.Buffers.{part_room, out_room}
-use Rattle.transcript.specs.Machine.{Whole, mach_of}
+use Rattle.transcript.specs.Machine.{Whole, mach_of, start}
+use Rattle.stream.specs.Moved.{Turned}
 use Rattle.stream.proofs.all_turns.Given as goal
 
 abbrev pub invariant-loop-left : goal.invariant-loop-left
 invariant-loop-left g l = record {
+  turned : Turned (g.R.Read.remaining l.initial.input) (g.R.Read.remaining l.input) (g.W.Write.contents l.initial.output) (g.W.Write.contents l.output) start (mach_of l.t.kept l.line l.t.run) l.t.sound;
   whole : Whole (mach_of l.t.kept l.line l.t.run);
   empty : l.t.kept.at ≡ 0;
   rows : l.t.kept.row + part_room * l.left < 2 ^ 60;
