@@ -27,7 +27,7 @@ pub struct Listed {
 }
 
 // So many steps are a list, and each has a place.
-#[tactic(auto, unfolding(crate::specs::Whole::fits))]
+#[tactic(auto, using(crate::proofs::ListLaws::fits_many, crate::proofs::ListLaws::fits_by))]
 pub fn fits(count: usize, places: usize) -> bool
     ensures { result ≡ fits count places }
 {
