@@ -21,7 +21,7 @@ use Rattle.run.specs.Steps.{client_at, slot_at, cabinet_at, loses_by, delivers_i
 use Rattle.run.specs.Undamaged.{undamaged}
 use Rattle.run.proofs.FrameLaws.{step_is_go, step_damaged}
 use Rattle.promise.specs.Agrees.{Holds, Has, Agrees}
-use Rattle.promise.specs.Events.{write, read, writes, reads, Event, beginning, ending, ending_in, answer_event, event}
+use Rattle.promise.specs.Events.{writes, reads, Event, beginning, ending, ending_in, answer_event, event}
 use Rattle.promise.proofs.Moves.{ending_event}
 
 module _ (run : Run) (s : Step) where

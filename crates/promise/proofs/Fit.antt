@@ -1,7 +1,7 @@
 -- What an offer, a stop, a restart and a rollback may do to one cabinet, as the view sees it. Assumes nothing.
 use Prim.Native.Nat.{ℕ, zero, suc, ◌+◌, min}
 use mathlib.Core.Path.{◌≡◌, refl, sym, ◌∙◌}
-use mathlib.Core.Bool.{Bool, true, false, cond, true≢false}
+use mathlib.Core.Bool.{Bool, true, false, true≢false}
 use mathlib.Core.List.{List, [], ◌∷◌}
 use mathlib.Core.Logic.{◌⊎◌, inl, inr, ⊎_elim}
 use lib.ListN.{get_or, take, drop, length}

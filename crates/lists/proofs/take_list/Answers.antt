@@ -1,13 +1,12 @@
 -- `take_list` meets its contract: each way to its answer. Assumes nothing.
 use Prim.Native.Nat.{ℕ, ◌≤◌}
 use borrow.Author.Rules.{rules}
-use lib.ListN.{length, take}
-use mathlib.Core.Bool.{Bool, true, false}
+use lib.ListN.{length}
+use mathlib.Core.Bool.{true}
 use mathlib.Core.List.{List}
 use mathlib.Core.Path.{◌≡◌, sym, ap, ◌∙◌}
-use Rattle.run.specs.Undamaged.{undamaged}
 use Rattle.lists.specs.Names.{Whole}
-use Rattle.lists.specs.Whole.{most_listed, fits, taken_of, untaken_of, list_of}
+use Rattle.lists.specs.Whole.{fits, untaken_of}
 use Rattle.lists.proofs.ListLaws.{fits_says, list_untaken, list_taken, taken_damaged}
 use Rattle.lists.proofs.take_list.Goals as goal
 

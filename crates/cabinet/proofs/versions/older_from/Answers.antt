@@ -1,5 +1,4 @@
 -- `older_from` meets its contract: after i turns the first i places hold the versions from the j-th on. Assumes nothing.
-use Prim.Native.Nat.{◌-◌}
 use lib.ListN.{length-set}
 use native.Mathlib.Omega.{arith}
 use Rattle.cabinet.proofs.VersionLaws.{older_turn, older_done}

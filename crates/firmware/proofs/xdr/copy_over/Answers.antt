@@ -1,5 +1,5 @@
 -- `copy_over` meets its contract: after i turns the first i bytes are copied. Assumes nothing.
-use Prim.Native.Nat.{ℕ, ◌+◌, ◌-◌, ◌≤◌, ◌<◌}
+use Prim.Native.Nat.{ℕ, ◌+◌, ◌≤◌, ◌<◌}
 use lib.ListN.{length, get_or, set, take, drop, length-set, drop_of_length-le}
 use lib.Seq.{take_all}
 use mathlib.Core.List.{List, ◌++◌, append-nil}

@@ -1,5 +1,4 @@
 -- `versions_sound` meets its contract: places below i pass the test, and the rest are looked at from i on. Assumes nothing.
-use Prim.Native.Nat.{◌-◌}
 use borrow.Author.Rules.{rules}
 use mathlib.Core.Path.{refl, sym, ◌∙◌}
 use native.Mathlib.Omega.{arith}

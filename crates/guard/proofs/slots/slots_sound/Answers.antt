@@ -1,5 +1,4 @@
 -- `slots_sound` meets its contract: places below j pass the test, and the rest are looked at from j on. Assumes nothing.
-use Prim.Native.Nat.{◌-◌}
 use borrow.Author.Rules.{rules}
 use mathlib.Core.Path.{refl, sym, ◌∙◌}
 use native.Mathlib.Omega.{arith}

@@ -1,5 +1,4 @@
 -- `count` meets its contract. The loop's invariant: n is how many of the first i places hold 1. Assumes nothing.
-use Prim.Native.Nat.{◌-◌}
 use mathlib.Core.Path.{◌≡◌}
 use native.Mathlib.Omega.{arith}
 use Rattle.limits.specs.Limits.{most_cabinets}

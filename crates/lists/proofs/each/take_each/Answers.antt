@@ -1,5 +1,5 @@
 -- `take_each` meets its contract: i steps are taken, and their numbers stand in front. Assumes nothing.
-use Prim.Native.Nat.{◌-◌, ◌≤◌}
+use Prim.Native.Nat.{◌≤◌}
 use lib.ListN.{length}
 use borrow.Author.Rules.{rules}
 use mathlib.Core.Path.{sym}

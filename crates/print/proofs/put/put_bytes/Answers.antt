@@ -1,5 +1,4 @@
 -- `put_bytes` meets its contract. The loop's invariant: the first i bytes of s stand in the buffer, whose length is as it was. Assumes nothing.
-use Prim.Native.Nat.{◌-◌}
 use lib.ListN.{length, length-set}
 use lib.Seq.{paste-zero}
 use mathlib.Core.Path.{◌≡◌, refl, ◌∙◌}

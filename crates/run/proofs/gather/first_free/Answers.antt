@@ -1,5 +1,4 @@
 -- `first_free` meets its contract: no slot that was passed is free. Assumes nothing.
-use Prim.Native.Nat.{◌-◌}
 use mathlib.Core.Path.{sym, ◌∙◌}
 use native.Mathlib.Omega.{arith}
 use Rattle.run.proofs.GatherLaws.{first_end, first_here, first_next}

@@ -1,5 +1,4 @@
 -- `others_marked` meets its contract: what is counted so far and what is left make up the whole. Assumes nothing.
-use Prim.Native.Nat.{◌-◌}
 use mathlib.Core.Path.{sym, ◌∙◌}
 use native.Mathlib.Omega.{arith}
 use Rattle.types.specs.Parts.{no_cabinet}

@@ -1,5 +1,4 @@
 -- `go` meets its contract: each way through its arms is one law of ArmLaws. Assumes nothing.
-use mathlib.Core.Bool.{true, false}
 use mathlib.Core.Path.{sym, ◌∙◌}
 use native.Mathlib.Omega.{arith}
 use Rattle.run.proofs.ArmLaws.{Admitted, loses_place, loses_nothing, loses_one, stops_place, stops_not, stops_to, restarts_place, restarts_to, rolls_place, rolls_not, rolls_to, rolls_nowhere, bars, begins_place, begins_not, begins_to, leaves_place, leaves_not, leaves_to, sends_place, sends_not, sends_in, sends_full, delivers_place, delivers_nothing, request_silent, request_says, request_weighs, reply_nothing, reply_counts, reply_ends}

@@ -1,5 +1,4 @@
 -- `begins` meets its contract. The loop's invariant: from the i-th byte on s begins with t when it does at all. Assumes nothing.
-use Prim.Native.Nat.{◌-◌}
 use mathlib.Core.Path.{refl, sym, ◌∙◌}
 use native.Mathlib.Omega.{arith}
 use Rattle.text.proofs.BytesLaws.{begins_short, begins_end, begins_stop, begins_next}

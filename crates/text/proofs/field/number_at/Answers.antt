@@ -1,5 +1,5 @@
 -- `number_at` meets its contract. The loop's invariant: v is the value of the first i digits, and the rest of the field goes on from it. Assumes nothing.
-use Prim.Native.Nat.{◌+◌, ◌-◌}
+use Prim.Native.Nat.{◌+◌}
 use lib.ListN.{length, drop}
 use mathlib.Core.List.{[], ◌∷◌}
 use mathlib.Core.Path.{◌≡◌, sym, ◌∙◌, ap}

@@ -1,7 +1,6 @@
 -- `text::whole::line_end` meets its contract. The loop's invariant: the bytes passed have no LF. Assumes nothing.
 use Rattle.text.proofs.BreakLaws.{part_none, part_bare}
 use native.Mathlib.Omega.{arith}
-use Prim.Native.Nat.{◌-◌}
 use Rattle.text.proofs.whole.line_end.Goals as goal
 
 pub loop-i-init : goal.loop-i-init

@@ -1,17 +1,15 @@
 -- `transcript::bytes::feed` meets its contract: the bytes before the first whole step row, the whole rows, and the bytes behind them. Assumes nothing.
-use Rattle.print.specs.Rows.{room}
 use Rattle.transcript.specs.Machine.{Mach, mach_of, at_step}
 use Rattle.transcript.proofs.WholeLaws.{whole_at}
 use Rattle.transcript.proofs.TookLaws.{step_sound, all_led, fed_on}
 use Rattle.run.specs.Undamaged.{undamaged}
-use Rattle.text.specs.Ends.{breaks}
 use Rattle.text.proofs.BreakLaws.{part_all, rest_most}
 use mathlib.Core.Path.{◌≡◌, sym, ◌∙◌}
 use lib.Seq.{take_all}
 use lib.ListN.{length, take, drop}
 use mathlib.Core.Bool.{true}
 use mathlib.Core.List.{List}
-use Prim.Native.Nat.{ℕ, ◌+◌, ◌-◌, ◌*◌, ◌^◌, ◌≤◌, ◌<◌}
+use Prim.Native.Nat.{ℕ, ◌-◌}
 use native.Mathlib.Omega.{arith}
 use Rattle.transcript.proofs.bytes.feed.Goals as goal
 

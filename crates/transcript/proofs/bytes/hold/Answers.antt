@@ -2,7 +2,6 @@
 use Rattle.transcript.proofs.RowLaws.{hold_all}
 use Rattle.transcript.proofs.HeldLaws.{hold_none, hold_next}
 use native.Mathlib.Omega.{arith}
-use Prim.Native.Nat.{◌-◌}
 use Rattle.transcript.proofs.bytes.hold.Goals as goal
 
 pub loop-i-init : goal.loop-i-init

@@ -4,7 +4,6 @@ use Rattle.transcript.proofs.WholeLaws.{whole_at}
 use Rattle.transcript.proofs.MachineLaws.{going_lf, going_in, feed_none}
 use mathlib.Core.Path.{refl, sym, ◌∙◌}
 use lib.ListN.{take}
-use Prim.Native.Nat.{◌-◌}
 use native.Mathlib.Omega.{arith}
 use Rattle.transcript.proofs.bytes.lead.Goals as goal
 use Rattle.transcript.proofs.bytes.lead.Goals.{then-ends, else-ends}

@@ -6,7 +6,6 @@ use Rattle.run.proofs.FitLaws.{steps_most, client_operation, client_best, reques
 use Rattle.run.specs.Gather.{first_from}
 use Rattle.turns.proofs.TakingLaws.{taking_none, taking_row, taking_end}
 use lib.ListN.{drop}
-use mathlib.Core.Bool.{true}
 use mathlib.Core.Path.{◌≡◌, sym, ◌∙◌, refl}
 use native.Mathlib.Omega.{arith}
 use Rattle.run.proofs.GatherLaws.{first_here, first_next}
