@@ -44,9 +44,7 @@ class Source:
 
 class Program:
     def __init__(self, path):
-        # What it complains of is that nobody reads on, and whoever stopped reading says why.
-        self.process = subprocess.Popen([path], stdin=subprocess.PIPE, stdout=subprocess.PIPE, stderr=subprocess.DEVNULL,
-                                        start_new_session=True)
+        self.process = subprocess.Popen([path], stdin=subprocess.PIPE, stdout=subprocess.PIPE, start_new_session=True)
 
     def feed(self, block):
         try:

@@ -14,7 +14,7 @@ use types.Logic.{Logic}
 use contract.Monad.{Fun, fact}
 use Rattle.desk.specs.Names.{Cabinet, Local, Nine, Run, Served, Step}
 use Rattle.desk.specs.Desk.{lent_of, table_of, local_of}
-use Rattle.desk.specs.contracts.array.step_local as step_Local
+use Rattle.desk.specs.contracts.array.step_local as step-local
 use Rattle.desk.specs.contracts.entrance.step_lent as step-lent
 use Rattle.desk.proofs.view.count.Reads as count
 use Rattle.desk.proofs.view.few.Reads as few
@@ -38,7 +38,7 @@ pub step_lent_any : {M : Type 1} {𝓤 : Ura M} (𝓛 : Logic 𝓤) (at_mem : Me
 step_lent_any 𝓛 at_mem run κs a g = refl
 
 pub step_local_says : {M : Type 1} {𝓤 : Ura M} (𝓛 : Logic 𝓤) (at_mem : Memory → SProp 𝓤) (run : Routine → Fun 𝓤) (κs : _) (a : _) (g : _) (r : Local) (e : _)
-    → (step_Local.clauses 𝓛 at_mem run κs a).ensures g r e ≡ fact 𝓤 (r ≡ local_of a.0 a.1.0 a.1.1.0 a.1.1.1.0)
+    → (step-local.clauses 𝓛 at_mem run κs a).ensures g r e ≡ fact 𝓤 (r ≡ local_of a.0 a.1.0 a.1.1.0 a.1.1.1.0)
 step_local_says 𝓛 at_mem run κs a g r e = refl
 
 pub step_local_decides : (run : Run) (table : List Cabinet) (len : ℕ) (s : Step) (r r' : Local)
@@ -46,7 +46,7 @@ pub step_local_decides : (run : Run) (table : List Cabinet) (len : ℕ) (s : Ste
 step_local_decides run table len s r r' p q = p ∙ sym q
 
 pub step_local_any : {M : Type 1} {𝓤 : Ura M} (𝓛 : Logic 𝓤) (at_mem : Memory → SProp 𝓤) (run : Routine → Fun 𝓤) (κs : _) (a : _) (g : _)
-    → (step_Local.clauses 𝓛 at_mem run κs a).requires g ≡ emp 𝓤
+    → (step-local.clauses 𝓛 at_mem run κs a).requires g ≡ emp 𝓤
 step_local_any 𝓛 at_mem run κs a g = refl
 
 -- ---- what a list over a lent table uses too

@@ -7,7 +7,7 @@ use mathlib.Core.Logic.{◌≢◌}
 use mathlib.Core.Path.{◌≡◌, refl, sym, ap, subst, ◌∙◌}
 use native.Mathlib.Omega.{arith}
 use lib.Dec.{eqb, leb, ltb}
-use lib.ListN.{length, get_or, set, take, drop, replicate, length-set, length-append, drop_of_length-le, get_or-append}
+use lib.ListN.{length, get_or, set, take, drop, replicate, length-set, length-drop, length-append, drop_of_length-le, get_or-append}
 use lib.Seq.{sets, set_out, set-get_or, get_or-set_same, get_or-set_other, get_or-take, length-take-le, take_all, take-append_seam, ext_get_or}
 use borrow.Author.Tests.{eqb-true, eqb-false, eq-eqb, ltb-true, ltb-false, leb-true, leb-false, lt-ltb, le-ltb}
 use Rattle.limits.specs.Limits.{most_cabinets}
@@ -254,6 +254,12 @@ module _ (len : ℕ) (l : List Cabinet) (nine : length l ≡ most_cabinets) wher
           let short : length l ≤ min len most_cabinets = omega arith in
           let shorter : length l ≤ len = omega arith in
           drop_of_length-le l short ∙ sym (drop_of_length-le l shorter)
+
+  pub cap_length : length (take (min len most_cabinets) l) ≡ min len most_cabinets
+  cap_length = length-take-le (min len most_cabinets) l (omega arith)
+
+  pub cap_rest : length (drop (min len most_cabinets) l) ≡ most_cabinets - min len most_cabinets
+  cap_rest = length-drop (min len most_cabinets) l ∙ ap (λ (k : ℕ). k - min len most_cabinets) nine
 
   pub local_is : (run : Run) (s : Step)
       → ◌≡◌ {A = Local}

@@ -8,6 +8,7 @@ use limits::MOST_CABINETS;
 use run::Run;
 use types::Step;
 
+#[tactic(auto, using(crate::proofs::ViewLaws::cap_length, crate::proofs::ViewLaws::cap_rest))]
 pub fn step_local(run: Run, table: [Cabinet; MOST_CABINETS], len: usize, s: Step) -> Local
     ensures { result ≡ local_of run table len s }
 {

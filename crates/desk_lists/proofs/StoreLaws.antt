@@ -5,7 +5,7 @@ use native.Mathlib.Nat.{not-suc-le-zero, le_of_suc-le-suc}
 use native.Mathlib.Omega.{arith}
 use mathlib.Core.List.{List, [], ◌∷◌, ◌++◌, append-nil}
 use mathlib.Core.Path.{◌≡◌, refl, sym, ap, subst, ◌∙◌}
-use lib.ListN.{length, get_or, take, drop, drop_of_length-le}
+use lib.ListN.{length, get_or, set, take, drop, drop_of_length-le}
 use lib.Seq.{take_all, ext_get_or}
 use Rattle.types.specs.Parts.{no_cabinet}
 use Rattle.desk_lists.specs.Names.{Cabinet, Nine}
@@ -19,6 +19,13 @@ stored r i (k ∷ l) = record_at r i k ∷ stored r (suc i) l
 -- what becomes of a table in front of whose place j all is stored, where its record at j is to be number p
 abbrev pub storing : Nine → ℕ → ℕ → List Cabinet → List Cabinet
 storing r p j zs = take j zs ++ stored r p (drop j zs)
+
+-- one more is stored
+pub store_next : (r : Nine) (p j : ℕ) (zs : List Cabinet) → j < length zs
+    → storing r (suc p) (suc j) (set zs j (record_at r p (get_or zs j no_cabinet))) ≡ storing r p j zs
+store_next r p j [] h = absurd (not-suc-le-zero h)
+store_next r p zero (x ∷ xs) h = refl
+store_next r p (suc j) (x ∷ xs) h = ap (λ (l : List Cabinet). x ∷ l) (store_next r p j xs (le_of_suc-le-suc h))
 
 -- all is stored
 pub store_all : (r : Nine) (p j : ℕ) (zs : List Cabinet) → length zs ≤ j → zs ≡ storing r p j zs

@@ -9,7 +9,7 @@ use Rattle.print.specs.Rows.{row_text, step_text, plan_text, refusal_text, no_he
 use Rattle.types.specs.Texts.{bytes}
 
 -- the whole output of case R1
-pub r1-output
+pub r1_output
     : head_text
     ++ plan_text 1 (plan_of 3 1 0 0)
     ++ step_text 2 (Answer.Accepted Outcome.Begun)
@@ -31,21 +31,21 @@ pub r1-output
     ++ bytes "8,0,unanswered,1,,,\n"
     ++ bytes "9,8,refused,,,,\n"
 unfolding head_text plan_text step_text row_text decimal digits_by plan_of in_range chosen
-r1-output = refl
+r1_output = refl
 
 -- plan P6, a row of another form, a missing header, and a part that ended
-pub other-rows
+pub other_rows
     : (plan_text 1 (plan_of 3 1 1 1) ≡ bytes "1,12,refused,,,,\n")
     × (refusal_text 10 ≡ bytes "10,2,refused,,,,\n")
     × (no_header_text ≡ bytes "0,13,refused,,,,\n")
     × (step_text 12 (Answer.Accepted (Outcome.Ended Ending.Chosen 3 (record { stamp = record { counter = 1; writer = 1 }; reading = Reading.Open 6 })))
     ≡ bytes "12,0,chosen,3,1,1,open 6\n")
 unfolding plan_text refusal_text no_header_text step_text row_text decimal digits_by plan_of in_range chosen
-other-rows = (refl, refl, refl, refl)
+other_rows = (refl, refl, refl, refl)
 
 -- the room that each function requires is needed: this row takes all of it
-pub longest-row
+pub longest_row
     : length (step_text 18446744073709551615 (Answer.Accepted (Outcome.Ended Ending.Written 255 (record { stamp = record { counter = 18446744073709551615; writer = 255 }; reading = Reading.Open 255 }))))
     ≡ room
 unfolding step_text row_text decimal digits_by
-longest-row = refl
+longest_row = refl

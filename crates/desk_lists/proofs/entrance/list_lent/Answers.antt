@@ -3,6 +3,7 @@
 use mathlib.Core.List.{List, []}
 use mathlib.Core.Path.{◌≡◌, sym, ap, ◌∙◌}
 use native.Mathlib.Omega.{arith}
+use native.Mathlib.Numerals.{add-one}
 use borrow.Author.Rules.{rules}
 use borrow.Author.Tests.{ne_eqb}
 use mathlib.Core.Logic.{◌≢◌}
@@ -12,7 +13,7 @@ use Rattle.desk.proofs.ViewLaws.{laid, laid_all, nine_of}
 use Rattle.desk_lists.specs.Names.{Cabinet, Listed, Nine}
 use Rattle.desk_lists.specs.View.{made_of}
 use Rattle.desk_lists.proofs.LentLaws.{list_wrong, list_right}
-use Rattle.desk_lists.proofs.StoreLaws.{stored, storing, store_all}
+use Rattle.desk_lists.proofs.StoreLaws.{stored, storing, store_next, store_all}
 use Rattle.desk_lists.proofs.entrance.list_lent.Goals as goal
 
 pub returns-then-table-n : goal.returns-then-table-n
@@ -43,3 +44,8 @@ returns c =
     ap (λ (r : Listed). (r, c.loop-j.table, c.make-m.new.answers)) c.made_listed.ensures
     ∙ ap (λ (l : List Cabinet). (c.make-m.result.listed, l, c.make-m.new.answers)) said
     ∙ list_right run table a.steps a.count answers full c.make-m.result c.make-m.new.answers same made
+
+pub loop-j-preserved : goal.loop-j-preserved
+loop-j-preserved c =
+    rw (c.record_at.ensures, add-one)
+    (store_next c.made_records-after.result c.loop-j.j c.loop-j.j c.loop-j.table c.loop-j-test.true ∙ c.loop-j.invariant)
