@@ -103,7 +103,8 @@ fn best_of(heard: u8, best: Entry, e: Entry) -> Entry
     if heard == 1 {
         return e;
     }
-    if best.takes(e) {
+    let greater = best.takes(e);
+    if greater {
         return e;
     }
     best
