@@ -40,15 +40,15 @@ FirstIn Work.SecondRead = ⊥
 
 -- clients below 8, cabinets below n, slots below 64, and 1 to 8 for a rollback
 abbrev pub Placed : ℕ → Asked → Type 0
-Placed n (Asked.Barred why) = Unit {0}
-Placed n (Asked.Begins i w) = (i < most_clients) × FirstIn w
-Placed n (Asked.Sends i p) = (i < most_clients) × (p < n)
-Placed n (Asked.Delivers j) = j < most_slots
-Placed n (Asked.Loses j) = j < most_slots
-Placed n (Asked.Stops p) = p < n
-Placed n (Asked.Leaves i) = i < most_clients
-Placed n (Asked.Restarts p) = p < n
-Placed n (Asked.RollsBack p j) = (p < n) × (1 ≤ j) × (j ≤ to_factory)
+Placed n (Err why) = Unit {0}
+Placed n (Ok (Asked.Begins i w)) = (i < most_clients) × FirstIn w
+Placed n (Ok (Asked.Sends i p)) = (i < most_clients) × (p < n)
+Placed n (Ok (Asked.Delivers j)) = j < most_slots
+Placed n (Ok (Asked.Loses j)) = j < most_slots
+Placed n (Ok (Asked.Stops p)) = p < n
+Placed n (Ok (Asked.Leaves i)) = i < most_clients
+Placed n (Ok (Asked.Restarts p)) = p < n
+Placed n (Ok (Asked.RollsBack p j)) = (p < n) × (1 ≤ j) × (j ≤ to_factory)
 
 pub range_placed : (n : ℕ) (s : Step) → in_range n s ≡ true → Placed n (placed s)
 unfolding in_range placed
@@ -64,13 +64,13 @@ range_placed n (Step.Restart k) e = let h = one_to_is n k e in omega arith
 range_placed n (Step.Rollback k j) e = let h = two k n j to_factory e in (omega arith, omega arith, omega arith)
 
 -- a step is barred, or it is in range and fewer than 1,000,000 steps were accepted before it
-pub admitted_by : (n steps : ℕ) (s : Step) (P : Asked → Type 0) → ((why : Refusal) → P (Asked.Barred why))
+pub admitted_by : (n steps : ℕ) (s : Step) (P : Asked → Type 0) → ((why : Refusal) → P (Err why))
     → (in_range n s ≡ true → steps < most_steps → P (placed s)) → P (admit_of n steps s)
 unfolding admit_of
 admitted_by n steps s P f g = go (in_range n s) (leb most_steps steps) refl refl
   where
     go : (t u : Bool) → in_range n s ≡ t → leb most_steps steps ≡ u
-        → P (cond t (cond u (Asked.Barred Refusal.Limit) (placed s)) (Asked.Barred Refusal.Range))
+        → P (cond t (cond u (Err Refusal.Limit) (placed s)) (Err Refusal.Range))
     go true true e l = f Refusal.Limit
     go true false e l = g e (leb-false most_steps steps l)
     go false u e l = f Refusal.Range

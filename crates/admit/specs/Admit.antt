@@ -23,17 +23,17 @@ in_range n (Step.Rollback k j) = one_to n k && one_to to_factory j
 
 -- S5.1: what is asked for, with clients, cabinets and slots from 0
 unfoldable pub placed : Step → Asked
-placed Step.Other = Asked.Barred Refusal.Range
-placed (Step.Write c r) = Asked.Begins (c - 1) (Work.FirstWrite r)
-placed (Step.Read c) = Asked.Begins (c - 1) Work.FirstRead
-placed (Step.Send c k) = Asked.Sends (c - 1) (k - 1)
-placed (Step.Deliver j) = Asked.Delivers (j - 1)
-placed (Step.Lose j) = Asked.Loses (j - 1)
-placed (Step.Stop k) = Asked.Stops (k - 1)
-placed (Step.Leave c) = Asked.Leaves (c - 1)
-placed (Step.Restart k) = Asked.Restarts (k - 1)
-placed (Step.Rollback k j) = Asked.RollsBack (k - 1) j
+placed Step.Other = Err Refusal.Range
+placed (Step.Write c r) = Ok (Asked.Begins (c - 1) (Work.FirstWrite r))
+placed (Step.Read c) = Ok (Asked.Begins (c - 1) Work.FirstRead)
+placed (Step.Send c k) = Ok (Asked.Sends (c - 1) (k - 1))
+placed (Step.Deliver j) = Ok (Asked.Delivers (j - 1))
+placed (Step.Lose j) = Ok (Asked.Loses (j - 1))
+placed (Step.Stop k) = Ok (Asked.Stops (k - 1))
+placed (Step.Leave c) = Ok (Asked.Leaves (c - 1))
+placed (Step.Restart k) = Ok (Asked.Restarts (k - 1))
+placed (Step.Rollback k j) = Ok (Asked.RollsBack (k - 1) j)
 
 -- S5.5: first S12.2, then S12.3
 unfoldable pub admit_of : ℕ → ℕ → Step → Asked
-admit_of n steps s = cond (in_range n s) (cond (leb most_steps steps) (Asked.Barred Refusal.Limit) (placed s)) (Asked.Barred Refusal.Range)
+admit_of n steps s = cond (in_range n s) (cond (leb most_steps steps) (Err Refusal.Limit) (placed s)) (Err Refusal.Range)

@@ -45,7 +45,7 @@ module _ (i : ℕ) (c : Client) (s : Standing) (es : s ≡ standing_of c.work) w
     send_away g = send_at Standing.Away g
 
     -- whatever slot is free, or none
-    pub send_busy : (t : Slot) → s ≡ Standing.Busy → t ≡ request_slot i k c → asking_as free (Asking.Puts t) ≡ sends_of i k c free
+    pub send_busy : (t : Slot) → s ≡ Standing.Busy → t ≡ request_slot i k c → asking_as free (Ok t) ≡ sends_of i k c free
     send_busy t g e = rw e (send_at Standing.Busy g)
 
   leave_at : (t : Standing) → s ≡ t → leaves_by t i c ≡ leaves_of i c

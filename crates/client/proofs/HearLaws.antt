@@ -14,17 +14,17 @@ use Rattle.client.specs.Hear.{told_stamp, told_entry, told_taken, told_by, await
 -- ---- which replies the open part awaits
 
 module _ (c : Client) (m : Message) where
-  pub await_other : (c.operation ≡ m.operation → ⊥) → Told.Nothing ≡ told_of c m
+  pub await_other : (c.operation ≡ m.operation → ⊥) → None ≡ told_of c m
   unfolding told_of
   await_other h = simp (ne_eqb _ _ h)
 
   module _ (part : ℕ) (same : c.operation ≡ m.operation) (ep : part ≡ part_of c.work) where
-    pub await_past : (part ≡ m.part → ⊥) → Told.Nothing ≡ told_of c m
+    pub await_past : (part ≡ m.part → ⊥) → None ≡ told_of c m
     unfolding told_of
     await_past h = simp (eq-eqb _ _ same, sym ep, ne_eqb _ _ h)
 
     module _ (now : part ≡ m.part) (has : Bool) (eh : has ≡ has_of c.heard m.cabinet) where
-      pub await_again : has ≡ true → Told.Nothing ≡ told_of c m
+      pub await_again : has ≡ true → None ≡ told_of c m
       unfolding told_of
       await_again h = simp (eq-eqb _ _ same, sym ep, eq-eqb _ _ now, sym eh ∙ h)
 
@@ -66,11 +66,11 @@ module _ (n : ℕ) (best e : Entry) where
 -- ---- the counter that a reply tells
 
 abbrev heard_counter : Told → ℕ
-heard_counter Told.Nothing = 0
-heard_counter (Told.OfWrite r e) = e.stamp.counter
-heard_counter (Told.OfRead e) = e.stamp.counter
-heard_counter Told.Wrote = 0
-heard_counter Told.ReadBack = 0
+heard_counter None = 0
+heard_counter (Some (Told.OfWrite r e)) = e.stamp.counter
+heard_counter (Some (Told.OfRead e)) = e.stamp.counter
+heard_counter (Some Told.Wrote) = 0
+heard_counter (Some Told.ReadBack) = 0
 
 stamp_below : (r : Reading) (b : Body) → heard_counter (told_stamp r b) ≤ told_counter b
 stamp_below r Body.AskStamp = omega arith
@@ -101,20 +101,20 @@ by_below Work.Idle b = omega arith
 by_below Work.Gone b = omega arith
 by_below (Work.FirstWrite r) b = stamp_below r b
 by_below Work.FirstRead b = entry_below b
-by_below Work.SecondWrite b = taken_below Told.Wrote b refl
-by_below Work.SecondRead b = taken_below Told.ReadBack b refl
+by_below Work.SecondWrite b = taken_below (Some Told.Wrote) b refl
+by_below Work.SecondRead b = taken_below (Some Told.ReadBack) b refl
 
 told_below : (c : Client) (m : Message) → heard_counter (told_of c m) ≤ told_counter m.body
 unfolding told_of
 told_below c m = go (awaits c m)
   where
-    go : (t : Bool) → heard_counter (cond t (told_by c.work m.body) Told.Nothing) ≤ told_counter m.body
+    go : (t : Bool) → heard_counter (cond t (told_by c.work m.body) None) ≤ told_counter m.body
     go true = by_below c.work m.body
     go false = omega arith
 
 -- what bounds the counter of a reply's body bounds the counter that is heard
 module _ (c : Client) (m : Message) (s : Told) (es : s ≡ told_of c m) (limit : ℕ) (h : told_counter m.body ≤ limit) where
-  pub write_below : (r : Reading) (e : Entry) → s ≡ Told.OfWrite r e → e.stamp.counter ≤ limit
+  pub write_below : (r : Reading) (e : Entry) → s ≡ Some (Told.OfWrite r e) → e.stamp.counter ≤ limit
   write_below r e g = omega (arith, told_below c m, ap heard_counter (sym g ∙ es))
 
 -- ---- whether a reply ends its part
@@ -164,22 +164,22 @@ module _ (plan : Plan) (j : ℕ) (c : Client) (m : Message) (heard : Heard) (s :
       ap (λ (h : Heard). hear_by t plan m.client j c h) eh
       ∙ ap (λ (t : Told). hear_by t plan m.client j c (with_of c.heard m.cabinet)) (sym g ∙ es)
 
-  pub hear_nothing : (d : Decision) → d ≡ discarded j → s ≡ Told.Nothing → d ≡ hears_of plan j c m
-  hear_nothing d ed g = ed ∙ hear_at Told.Nothing g
+  pub hear_nothing : (d : Decision) → d ≡ discarded j → s ≡ None → d ≡ hears_of plan j c m
+  hear_nothing d ed g = ed ∙ hear_at None g
 
   module _ (n : ℕ) (en : n ≡ count_of heard) (e best : Entry) (eb : best ≡ best_of n c.best e) where
     heard_best : best ≡ best_of (count_of heard) c.best e
     heard_best = eb ∙ ap (λ (n : ℕ). best_of n c.best e) en
 
-    pub hear_write : (r : Reading) (d : Decision) → d ≡ first_write plan m.client j c heard r best → s ≡ Told.OfWrite r e
+    pub hear_write : (r : Reading) (d : Decision) → d ≡ first_write plan m.client j c heard r best → s ≡ Some (Told.OfWrite r e)
         → d ≡ hears_of plan j c m
-    hear_write r d ed g = ed ∙ ap (first_write plan m.client j c heard r) heard_best ∙ hear_at (Told.OfWrite r e) g
+    hear_write r d ed g = ed ∙ ap (first_write plan m.client j c heard r) heard_best ∙ hear_at (Some (Told.OfWrite r e)) g
 
-    pub hear_read : (d : Decision) → d ≡ first_read plan m.client j c heard best → s ≡ Told.OfRead e → d ≡ hears_of plan j c m
-    hear_read d ed g = ed ∙ ap (first_read plan m.client j c heard) heard_best ∙ hear_at (Told.OfRead e) g
+    pub hear_read : (d : Decision) → d ≡ first_read plan m.client j c heard best → s ≡ Some (Told.OfRead e) → d ≡ hears_of plan j c m
+    hear_read d ed g = ed ∙ ap (first_read plan m.client j c heard) heard_best ∙ hear_at (Some (Told.OfRead e)) g
 
-  pub hear_wrote : (d : Decision) → d ≡ second plan m.client j c heard Ending.Written → s ≡ Told.Wrote → d ≡ hears_of plan j c m
-  hear_wrote d ed g = ed ∙ hear_at Told.Wrote g
+  pub hear_wrote : (d : Decision) → d ≡ second plan m.client j c heard Ending.Written → s ≡ Some Told.Wrote → d ≡ hears_of plan j c m
+  hear_wrote d ed g = ed ∙ hear_at (Some Told.Wrote) g
 
-  pub hear_read_back : (d : Decision) → d ≡ second plan m.client j c heard Ending.Read → s ≡ Told.ReadBack → d ≡ hears_of plan j c m
-  hear_read_back d ed g = ed ∙ hear_at Told.ReadBack g
+  pub hear_read_back : (d : Decision) → d ≡ second plan m.client j c heard Ending.Read → s ≡ Some Told.ReadBack → d ≡ hears_of plan j c m
+  hear_read_back d ed g = ed ∙ hear_at (Some Told.ReadBack) g

@@ -8,39 +8,39 @@ use Rattle.client.specs.Begin.{part_of}
 
 -- S8.2: what a body says to a write's first part: a stamp, or nothing
 abbrev pub told_stamp : Reading → Body → Told
-told_stamp r Body.AskStamp = Told.Nothing
-told_stamp r Body.AskEntry = Told.Nothing
-told_stamp r (Body.Offer e) = Told.Nothing
-told_stamp r (Body.TellStamp s) = Told.OfWrite r (record { stamp = s; reading = Reading.Unknown })
-told_stamp r (Body.TellEntry e) = Told.Nothing
-told_stamp r Body.Acknowledge = Told.Nothing
+told_stamp r Body.AskStamp = None
+told_stamp r Body.AskEntry = None
+told_stamp r (Body.Offer e) = None
+told_stamp r (Body.TellStamp s) = Some (Told.OfWrite r (record { stamp = s; reading = Reading.Unknown }))
+told_stamp r (Body.TellEntry e) = None
+told_stamp r Body.Acknowledge = None
 
 -- S8.2: to a read's first part: an entry, or nothing
 abbrev pub told_entry : Body → Told
-told_entry Body.AskStamp = Told.Nothing
-told_entry Body.AskEntry = Told.Nothing
-told_entry (Body.Offer e) = Told.Nothing
-told_entry (Body.TellStamp s) = Told.Nothing
-told_entry (Body.TellEntry e) = Told.OfRead e
-told_entry Body.Acknowledge = Told.Nothing
+told_entry Body.AskStamp = None
+told_entry Body.AskEntry = None
+told_entry (Body.Offer e) = None
+told_entry (Body.TellStamp s) = None
+told_entry (Body.TellEntry e) = Some (Told.OfRead e)
+told_entry Body.Acknowledge = None
 
 -- S8.2: to a second part: an acknowledgement, or nothing
 abbrev pub told_taken : Told → Body → Told
-told_taken t Body.AskStamp = Told.Nothing
-told_taken t Body.AskEntry = Told.Nothing
-told_taken t (Body.Offer e) = Told.Nothing
-told_taken t (Body.TellStamp s) = Told.Nothing
-told_taken t (Body.TellEntry e) = Told.Nothing
+told_taken t Body.AskStamp = None
+told_taken t Body.AskEntry = None
+told_taken t (Body.Offer e) = None
+told_taken t (Body.TellStamp s) = None
+told_taken t (Body.TellEntry e) = None
 told_taken t Body.Acknowledge = t
 
 -- S8.2: to the part that is open; to a client that is idle or gone, nothing
 abbrev pub told_by : Work → Body → Told
-told_by Work.Idle b = Told.Nothing
-told_by Work.Gone b = Told.Nothing
+told_by Work.Idle b = None
+told_by Work.Gone b = None
 told_by (Work.FirstWrite r) b = told_stamp r b
 told_by Work.FirstRead b = told_entry b
-told_by Work.SecondWrite b = told_taken Told.Wrote b
-told_by Work.SecondRead b = told_taken Told.ReadBack b
+told_by Work.SecondWrite b = told_taken (Some Told.Wrote) b
+told_by Work.SecondRead b = told_taken (Some Told.ReadBack) b
 
 -- S8.2: its number and part are open, and its cabinet was not heard in this part
 abbrev pub awaits : Client → Message → Bool
@@ -48,7 +48,7 @@ awaits c m = eqb c.operation m.operation && (eqb (part_of c.work) m.part && not 
 
 -- S8.2: what a reply says, or nothing where it is not awaited; S8.8: its cabinet is not looked at
 unfoldable pub told_of : Client → Message → Told
-told_of c m = cond (awaits c m) (told_by c.work m.body) Told.Nothing
+told_of c m = cond (awaits c m) (told_by c.work m.body) None
 
 -- S8.6: the greatest heard, the first of equal ones; the very first is taken whatever its stamp
 unfoldable pub best_of : ℕ → Entry → Entry → Entry
@@ -90,11 +90,11 @@ second plan i j c heard how =
 
 -- S8.2, S8.3: by what the reply says
 abbrev pub hear_by : Told → Plan → ℕ → ℕ → Client → Heard → Decision
-hear_by Told.Nothing plan i j c heard = discarded j
-hear_by (Told.OfWrite r e) plan i j c heard = first_write plan i j c heard r (best_of (count_of heard) c.best e)
-hear_by (Told.OfRead e) plan i j c heard = first_read plan i j c heard (best_of (count_of heard) c.best e)
-hear_by Told.Wrote plan i j c heard = second plan i j c heard Ending.Written
-hear_by Told.ReadBack plan i j c heard = second plan i j c heard Ending.Read
+hear_by None plan i j c heard = discarded j
+hear_by (Some (Told.OfWrite r e)) plan i j c heard = first_write plan i j c heard r (best_of (count_of heard) c.best e)
+hear_by (Some (Told.OfRead e)) plan i j c heard = first_read plan i j c heard (best_of (count_of heard) c.best e)
+hear_by (Some Told.Wrote) plan i j c heard = second plan i j c heard Ending.Written
+hear_by (Some Told.ReadBack) plan i j c heard = second plan i j c heard Ending.Read
 
 -- S8.1: client i hears the message of slot j, which is emptied
 unfoldable pub hears_of : Plan → ℕ → Client → Message → Decision

@@ -106,13 +106,13 @@ module _ (run : Run) (table : List Cabinet) (s : Step) where
       (λ same e. absurd (let z : ◌≡◌ {A = ℕ} 0 1 = cc in omega arith))
       (λ e. (refl, refl))
 
-  pub refused : (w : Refusal) → (lent_of run table s).answer ≡ Lent.Answered (Answer.Refused w)
+  pub refused : (w : Refusal) → (lent_of run table s).answer ≡ Lent.Answered (Err w)
       → ((lent_of run table s).run ≡ run) × (table_of run table s ≡ table)
   unfolding answered viewed with_records with_cabinets
   refused w =
-      by_length (λ (z : Served) (l : List Cabinet). z.answer ≡ Lent.Answered (Answer.Refused w) → (z.run ≡ run) × (l ≡ table))
+      by_length (λ (z : Served) (l : List Cabinet). z.answer ≡ Lent.Answered (Err w) → (z.run ≡ run) × (l ≡ table))
       (λ same e.
-      let f : (viewed run table s).answer ≡ Answer.Refused w = cc in
+      let f : (viewed run table s).answer ≡ Err w = cc in
       let kept : (viewed run table s).run ≡ with_records run table = step_refused (with_records run table) s w f in
       (ap (λ (r : Run). with_cabinets r run.cabinets) kept, ap (λ (r : Run). take (length table) r.cabinets) kept ∙ take-append_seam table (replicate (most_cabinets - length table) fresh_cabinet)))
       (λ e. (refl, refl))
@@ -167,6 +167,6 @@ module _ (run : Run) (table : List Cabinet) (s : Step) (same : length table ≡ 
 
   -- answer 1, with the lent records in place of the run's own
   pub lent_damaged : (rest_sound run && all_from (lent_sound run.plan run.steps) 0 table) ≡ false
-      → lent_of run table s ≡ record { answer = Lent.Answered (Answer.Refused Refusal.Damaged); run = run }
+      → lent_of run table s ≡ record { answer = Lent.Answered (Err Refusal.Damaged); run = run }
   unfolding answered viewed with_records with_cabinets
   lent_damaged e = sym (lent_right run table s same) ∙ ap (answered run) (step_damaged (with_records run table) s (lent_undamaged ∙ e))

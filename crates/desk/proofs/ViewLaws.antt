@@ -55,15 +55,15 @@ met_asked (Held.Reply m) j i l e = absurd (omega arith)
 
 met_aims : (run : Run) (a : Asked) (i : ℕ) → i < most_cabinets → i ≡ (met_at run a).cabinet → i ≡ aimed_by run a
 unfolding aimed_by slot_at
-met_aims run (Asked.Barred why) i l e = absurd (omega arith)
-met_aims run (Asked.Begins c w) i l e = absurd (omega arith)
-met_aims run (Asked.Leaves c) i l e = absurd (omega arith)
-met_aims run (Asked.Sends c p) i l e = absurd (omega arith)
-met_aims run (Asked.Delivers j) i l e = met_asked (slot_at run j).held j i l e
-met_aims run (Asked.Loses j) i l e = absurd (omega arith)
-met_aims run (Asked.Stops p) i l e = e
-met_aims run (Asked.Restarts p) i l e = e
-met_aims run (Asked.RollsBack p j) i l e = e
+met_aims run (Err why) i l e = absurd (omega arith)
+met_aims run (Ok (Asked.Begins c w)) i l e = absurd (omega arith)
+met_aims run (Ok (Asked.Leaves c)) i l e = absurd (omega arith)
+met_aims run (Ok (Asked.Sends c p)) i l e = absurd (omega arith)
+met_aims run (Ok (Asked.Delivers j)) i l e = met_asked (slot_at run j).held j i l e
+met_aims run (Ok (Asked.Loses j)) i l e = absurd (omega arith)
+met_aims run (Ok (Asked.Stops p)) i l e = e
+met_aims run (Ok (Asked.Restarts p)) i l e = e
+met_aims run (Ok (Asked.RollsBack p j)) i l e = e
 
 met_place : (run : Run) (s : Step) (i : ℕ) → i < most_cabinets → i ≡ (met_at run (asked_of run s)).cabinet → i ≡ place_of run s
 unfolding aimed_at
@@ -122,7 +122,7 @@ view_is run table h = ap (with_cabinets run) (put_in most_cabinets fresh_cabinet
 
 module _ (run : Run) (table : List Cabinet) (s : Step) where
   broken : most_cabinets < run.plan.n → (l : List Cabinet)
-      → step_of (with_cabinets run l) s ≡ record { answer = Answer.Refused Refusal.Damaged; run = with_cabinets run l }
+      → step_of (with_cabinets run l) s ≡ record { answer = Err Refusal.Damaged; run = with_cabinets run l }
   broken h l = step_damaged (with_cabinets run l) s (too_long run h l)
 
   -- what the step changes of the lent records
@@ -138,7 +138,7 @@ module _ (run : Run) (table : List Cabinet) (s : Step) where
   viewed_length = (step_lengths (with_records run table) s).cabinets
 
   viewed_broken : most_cabinets < run.plan.n
-      → viewed run table s ≡ record { answer = Answer.Refused Refusal.Damaged; run = with_records run table }
+      → viewed run table s ≡ record { answer = Err Refusal.Damaged; run = with_records run table }
   unfolding viewed with_records
   viewed_broken h = broken h (table ++ replicate (most_cabinets - length table) fresh_cabinet)
 

@@ -25,15 +25,15 @@ asked_in (Held.Reply m) = 0
 
 -- S14.3: the place of the cabinet that a step may change, and the first where there is none
 unfoldable pub aimed_by : Run → Asked → ℕ
-aimed_by run (Asked.Barred why) = 0
-aimed_by run (Asked.Begins i w) = 0
-aimed_by run (Asked.Leaves i) = 0
-aimed_by run (Asked.Sends i p) = 0
-aimed_by run (Asked.Delivers j) = asked_in (slot_at run j).held
-aimed_by run (Asked.Loses j) = 0
-aimed_by run (Asked.Stops p) = p
-aimed_by run (Asked.Restarts p) = p
-aimed_by run (Asked.RollsBack p j) = p
+aimed_by run (Err why) = 0
+aimed_by run (Ok (Asked.Begins i w)) = 0
+aimed_by run (Ok (Asked.Leaves i)) = 0
+aimed_by run (Ok (Asked.Sends i p)) = 0
+aimed_by run (Ok (Asked.Delivers j)) = asked_in (slot_at run j).held
+aimed_by run (Ok (Asked.Loses j)) = 0
+aimed_by run (Ok (Asked.Stops p)) = p
+aimed_by run (Ok (Asked.Restarts p)) = p
+aimed_by run (Ok (Asked.RollsBack p j)) = p
 
 -- S14.3: the same of a step as it is asked for
 unfoldable pub aimed_at : Run → Step → ℕ

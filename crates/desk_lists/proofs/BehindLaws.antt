@@ -33,15 +33,15 @@ module _ (run : Run) (i : ℕ) (past : run.plan.n ≤ i) (near : i < most_cabine
 
   off_asked : undamaged run ≡ true → (a : Asked) → Placed run.plan.n a → i ≢ (met_at run a).cabinet
   unfolding slot_at
-  off_asked whole (Asked.Barred why) f e = omega arith
-  off_asked whole (Asked.Begins c w) f e = omega arith
-  off_asked whole (Asked.Leaves c) f e = omega arith
-  off_asked whole (Asked.Sends c p) f e = omega arith
-  off_asked whole (Asked.Delivers j) f e = off_message j (slot_at run j).held (holds run whole j) e
-  off_asked whole (Asked.Loses j) f e = omega arith
-  off_asked whole (Asked.Stops p) f e = omega arith
-  off_asked whole (Asked.Restarts p) f e = omega arith
-  off_asked whole (Asked.RollsBack p j) f e = omega arith
+  off_asked whole (Err why) f e = omega arith
+  off_asked whole (Ok (Asked.Begins c w)) f e = omega arith
+  off_asked whole (Ok (Asked.Leaves c)) f e = omega arith
+  off_asked whole (Ok (Asked.Sends c p)) f e = omega arith
+  off_asked whole (Ok (Asked.Delivers j)) f e = off_message j (slot_at run j).held (holds run whole j) e
+  off_asked whole (Ok (Asked.Loses j)) f e = omega arith
+  off_asked whole (Ok (Asked.Stops p)) f e = omega arith
+  off_asked whole (Ok (Asked.Restarts p)) f e = omega arith
+  off_asked whole (Ok (Asked.RollsBack p j)) f e = omega arith
 
   -- whatever stands there
   step_past : (s : Step) (d : Cabinet) → get_or (step_of run s).run.cabinets i d ≡ get_or run.cabinets i d

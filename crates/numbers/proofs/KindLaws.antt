@@ -106,11 +106,11 @@ both_num false x y a b = b
 
 hears_num : (d : Told) (plan : Plan) (i j : ℕ) (c : Client) (h : Heard) → num (hear_by d plan i j c h) ≡ 0
 unfolding first_write first_read second
-hears_num Told.Nothing plan i j c h = refl
-hears_num (Told.OfWrite r e) plan i j c h = both_num (leb plan.read (count_of h)) _ _ refl refl
-hears_num (Told.OfRead e) plan i j c h = both_num (leb plan.read (count_of h)) _ _ refl refl
-hears_num Told.Wrote plan i j c h = both_num (leb plan.write (count_of h)) _ _ refl refl
-hears_num Told.ReadBack plan i j c h = both_num (leb plan.write (count_of h)) _ _ refl refl
+hears_num None plan i j c h = refl
+hears_num (Some (Told.OfWrite r e)) plan i j c h = both_num (leb plan.read (count_of h)) _ _ refl refl
+hears_num (Some (Told.OfRead e)) plan i j c h = both_num (leb plan.read (count_of h)) _ _ refl refl
+hears_num (Some Told.Wrote) plan i j c h = both_num (leb plan.write (count_of h)) _ _ refl refl
+hears_num (Some Told.ReadBack) plan i j c h = both_num (leb plan.write (count_of h)) _ _ refl refl
 
 module _ (j : ℕ) (m : Message) (k : Sight) where
   answers_by_num : (b : Body) (stale : Bool) → num (answers_by b stale j m k) ≡ 0

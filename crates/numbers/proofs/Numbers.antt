@@ -34,8 +34,8 @@ refusal_range Refusal.NoVersion = (omega arith, omega arith)
 refusal_range Refusal.TooMany = (omega arith, omega arith)
 
 below_fourteen : (a : Answer) → answer_number a ≢ 14
-below_fourteen (Answer.Refused why) e = omega (arith, refusal_range why)
-below_fourteen (Answer.Accepted o) e = omega arith
+below_fourteen (Err why) e = omega (arith, refusal_range why)
+below_fourteen (Ok o) e = omega arith
 
 put_num : (run : Run) (x : Decision) → answer_number (put_back run x).answer ≡ num x
 put_num run (Decision.No why) = refl
@@ -50,7 +50,7 @@ module _ (run : Run) (size : length run.slots ≡ most_slots) where
   numbers s = go (undamaged run) refl
     where
       checked : (t u : Bool) → in_range run.plan.n s ≡ t
-          → num (decide_of run (cond t (cond u (Asked.Barred Refusal.Limit) (placed s)) (Asked.Barred Refusal.Range)))
+          → num (decide_of run (cond t (cond u (Err Refusal.Limit) (placed s)) (Err Refusal.Range)))
           ≡ cond (not t) 2 (cond u 3 (first_of (kind_checks run s)))
       checked true true e = refl
       checked true false e = placed_num run size s e
@@ -70,16 +70,16 @@ module _ (run : Run) (s : Step) where
   unchanged ne = go (step_of run s).answer refl
     where
       go : (a : Answer) → (step_of run s).answer ≡ a → (step_of run s).run ≡ run
-      go (Answer.Refused why) e = step_refused run s why e
-      go (Answer.Accepted o) e = absurd (ne (ap answer_number e))
+      go (Err why) e = step_refused run s why e
+      go (Ok o) e = absurd (ne (ap answer_number e))
 
   -- "0 is accepted": the step is counted
   pub counted : answer_number (step_of run s).answer ≡ 0 → (step_of run s).run.steps ≡ run.steps + 1
   counted z = go (step_of run s).answer refl
     where
       go : (a : Answer) → (step_of run s).answer ≡ a → (step_of run s).run.steps ≡ run.steps + 1
-      go (Answer.Refused why) e = absurd (omega (arith, refusal_range why, ap answer_number e))
-      go (Answer.Accepted o) e = step_accepted run s o e
+      go (Err why) e = absurd (omega (arith, refusal_range why, ap answer_number e))
+      go (Ok o) e = step_accepted run s o e
 
 -- ---- over a lent table
 
@@ -106,5 +106,5 @@ module _ (run : Run) (table : List Cabinet) (s : Step) where
     where
       go : (a : Lent) → (lent_of run table s).answer ≡ a → ((lent_of run table s).run ≡ run) × (table_of run table s ≡ table)
       go Lent.WrongLength e = refused_length run table s e
-      go (Lent.Answered (Answer.Refused why)) e = refused run table s why e
-      go (Lent.Answered (Answer.Accepted o)) e = absurd (ne (ap lent_number e))
+      go (Lent.Answered (Err why)) e = refused run table s why e
+      go (Lent.Answered (Ok o)) e = absurd (ne (ap lent_number e))

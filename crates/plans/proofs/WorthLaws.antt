@@ -19,13 +19,13 @@ module _ (n k r b : ℕ) where
   abbrev Affordable : ℕ → Type 0
   Affordable s = (2 * k + b + 1 ≤ n) ⊎ ((2 * k + r + 1 ≤ n) × (2 * k + r + 1 ≤ s))
 
-  affordable : (p : Plan) → plan_of n k r b ≡ Planned.Accepted p → InRange n k r b × Affordable p.stores
+  affordable : (p : Plan) → plan_of n k r b ≡ Ok p → InRange n k r b × Affordable p.stores
   unfolding plan_of chosen
   affordable p = go _ _ _ refl refl refl
     where
       go : (s t u : Bool) → in_range n k r b ≡ s → leb (2 * k + b + 1) n ≡ t → leb (2 * k + r + 1) n ≡ u
-          → cond s (cond t (Planned.Accepted (forgetful_plan n k r b)) (cond u (Planned.Accepted (store_plan n k r b)) Planned.TooSmall))
-          Planned.OutOfRange ≡ Planned.Accepted p
+          → cond s (cond t (Ok (forgetful_plan n k r b)) (cond u (Ok (store_plan n k r b)) (Err Unplanned.TooSmall)))
+          (Err Unplanned.OutOfRange) ≡ Ok p
           → InRange n k r b × Affordable p.stores
       go true true u e f g h = (ranges n k r b e, inl (leb-true _ _ f))
       go true false true e f g h =
@@ -39,21 +39,21 @@ module _ (n k r b : ℕ) where
   affords_it s i a = simp (ranged n k r b i) (go _ _ refl refl a)
     where
       go : (t u : Bool) → leb (2 * k + b + 1) n ≡ t → leb (2 * k + r + 1) n ≡ u → Affordable s
-          → affords (cond t (Planned.Accepted (forgetful_plan n k r b)) (cond u (Planned.Accepted (store_plan n k r b)) Planned.TooSmall)) s ≡
+          → affords (cond t (Ok (forgetful_plan n k r b)) (cond u (Ok (store_plan n k r b)) (Err Unplanned.TooSmall))) s ≡
           true
       go true u f g a = le-leb 0 s (omega arith)
       go false u f g (inl h) = absurd (omega (arith, leb-false (2 * k + b + 1) n f))
       go false true f g (inr h) = le-leb _ _ h.1
       go false false f g (inr h) = absurd (omega (arith, leb-false (2 * k + r + 1) n g))
 
-module _ (n k r b : ℕ) (p : Plan) (accepted : plan_of n k r b ≡ Planned.Accepted p) where
+module _ (n k r b : ℕ) (p : Plan) (accepted : plan_of n k r b ≡ Ok p) where
   -- whatever lies below an accepted plan and is in range can be had with as many stores
   below : (s x y z : ℕ) → p.stores ≤ s → InRange n x y z → x ≤ k → y ≤ r → z ≤ b → affords (plan_of n x y z) s ≡ true
   below s x y z hs i hx hy hz =
       affords_it n x y z s i
       (⊎_elim (λ f. inl (omega arith)) (λ f. inr (omega arith, omega arith)) (affordable n k r b p accepted).1)
 
-module _ (n k r b : ℕ) (p : Plan) (accepted : plan_of n k r b ≡ Planned.Accepted p) (best : worth p ≡ true) where
+module _ (n k r b : ℕ) (p : Plan) (accepted : plan_of n k r b ≡ Ok p) (best : worth p ≡ true) where
   -- the three questions that `worth` asks, over the plan's own numbers
   asked : (affords (plan_of n (k + 1) r b) p.stores ≡ false) × (affords (plan_of n k (r + 1) b) p.stores ≡ false)
       × (affords (plan_of n k r (b + 1)) p.stores ≡ false)
@@ -65,7 +65,7 @@ module _ (n k r b : ℕ) (p : Plan) (accepted : plan_of n k r b ≡ Planned.Acce
       (not-true _ h.0, not-true _ g.0, not-true _ g.1)
 
   -- A plan with more of one number and less of none needs more stores. Raise k first, then r, then b: every step stays in range, for r ≤ k.
-  pub none_better : (k' r' b' : ℕ) (q : Plan) → plan_of n k' r' b' ≡ Planned.Accepted q → k ≤ k' → r ≤ r' → b ≤ b' → q.stores ≤ p.stores
+  pub none_better : (k' r' b' : ℕ) (q : Plan) → plan_of n k' r' b' ≡ Ok q → k ≤ k' → r ≤ r' → b ≤ b' → q.stores ≤ p.stores
       → (k' ≡ k) × (r' ≡ r) × (b' ≡ b)
   none_better k' r' b' q given hk hr hb hs =
       go _ _ _ refl refl refl (affordable n k r b p accepted).0 (affordable n k' r' b' q given).0

@@ -6,9 +6,9 @@ use Rattle.plans.specs.Names.{Plan, Planned}
 
 -- an accepted plan that needs no more stores than these
 abbrev pub affords : Planned → ℕ → Bool
-affords Planned.OutOfRange s = false
-affords Planned.TooSmall s = false
-affords (Planned.Accepted q) s = leb q.stores s
+affords (Err Unplanned.OutOfRange) s = false
+affords (Err Unplanned.TooSmall) s = false
+affords (Ok q) s = leb q.stores s
 
 -- with no more stores the line cannot bear one more faulty cabinet, nor one more that rolls back, nor one more sound one that restarts
 unfoldable pub worth : Plan → Bool

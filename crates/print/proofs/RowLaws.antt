@@ -29,25 +29,25 @@ accepted fs = let h : 0 < 10 = omega arith in ap (λ (z : List ℕ). bytes "," +
 
 -- the row number and then the rest
 
-pub step_refused : (row n : ℕ) (w : Refusal) → n ≡ refusal_number w → decimal row ++ fields (refused n) ≡ step_text row (Answer.Refused w)
+pub step_refused : (row n : ℕ) (w : Refusal) → n ≡ refusal_number w → decimal row ++ fields (refused n) ≡ step_text row (Err w)
 unfolding step_text row_text
 step_refused row n w e = ap (λ (m : ℕ). decimal row ++ fields (refused m)) e
 
 pub step_accepted : (row : ℕ) (o : Outcome)
-    → decimal row ++ accepted_fields (outcome_word o ∷ outcome_shown o) ≡ step_text row (Answer.Accepted o)
+    → decimal row ++ accepted_fields (outcome_word o ∷ outcome_shown o) ≡ step_text row (Ok o)
 unfolding step_text row_text
 step_accepted row o = ap (λ (l : List ℕ). decimal row ++ l) (accepted (outcome_word o ∷ outcome_shown o))
 
-pub plan_out_of_range : (row : ℕ) → decimal row ++ fields (refused (answer_of Planned.OutOfRange)) ≡ plan_text row Planned.OutOfRange
+pub plan_out_of_range : (row : ℕ) → decimal row ++ fields (refused (answer_of (Err Unplanned.OutOfRange))) ≡ plan_text row (Err Unplanned.OutOfRange)
 unfolding plan_text row_text
 plan_out_of_range row = refl
 
-pub plan_too_small : (row : ℕ) → decimal row ++ fields (refused (answer_of Planned.TooSmall)) ≡ plan_text row Planned.TooSmall
+pub plan_too_small : (row : ℕ) → decimal row ++ fields (refused (answer_of (Err Unplanned.TooSmall))) ≡ plan_text row (Err Unplanned.TooSmall)
 unfolding plan_text row_text
 plan_too_small row = refl
 
 pub plan_accepted : (row : ℕ) (p : Plan)
-    → decimal row ++ accepted_fields (profile_word p.profile ∷ none_shown) ≡ plan_text row (Planned.Accepted p)
+    → decimal row ++ accepted_fields (profile_word p.profile ∷ none_shown) ≡ plan_text row (Ok p)
 unfolding plan_text row_text
 plan_accepted row p = ap (λ (l : List ℕ). decimal row ++ l) (accepted (profile_word p.profile ∷ none_shown))
 

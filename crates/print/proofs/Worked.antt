@@ -12,14 +12,14 @@ use Rattle.types.specs.Texts.{bytes}
 pub r1_output
     : head_text
     ++ plan_text 1 (plan_of 3 1 0 0)
-    ++ step_text 2 (Answer.Accepted Outcome.Begun)
-    ++ step_text 3 (Answer.Accepted (Outcome.Sent 1))
-    ++ step_text 4 (Answer.Accepted (Outcome.Answered 1))
-    ++ step_text 5 (Answer.Accepted (Outcome.Counted 1))
-    ++ step_text 6 (Answer.Accepted Outcome.Restarted)
-    ++ step_text 7 (Answer.Accepted (Outcome.Sent 1))
-    ++ step_text 8 (Answer.Accepted (Outcome.Unanswered 1))
-    ++ step_text 9 (Answer.Refused Refusal.NoMessage)
+    ++ step_text 2 (Ok Outcome.Begun)
+    ++ step_text 3 (Ok (Outcome.Sent 1))
+    ++ step_text 4 (Ok (Outcome.Answered 1))
+    ++ step_text 5 (Ok (Outcome.Counted 1))
+    ++ step_text 6 (Ok Outcome.Restarted)
+    ++ step_text 7 (Ok (Outcome.Sent 1))
+    ++ step_text 8 (Ok (Outcome.Unanswered 1))
+    ++ step_text 9 (Err Refusal.NoMessage)
     ≡ bytes "row,answer,outcome,slot,counter,writer,entry\n"
     ++ bytes "1,0,forgetful,,,,\n"
     ++ bytes "2,0,begun,,,,\n"
@@ -38,14 +38,14 @@ pub other_rows
     : (plan_text 1 (plan_of 3 1 1 1) ≡ bytes "1,12,refused,,,,\n")
     × (refusal_text 10 ≡ bytes "10,2,refused,,,,\n")
     × (no_header_text ≡ bytes "0,13,refused,,,,\n")
-    × (step_text 12 (Answer.Accepted (Outcome.Ended Ending.Chosen 3 (record { stamp = record { counter = 1; writer = 1 }; reading = Reading.Open 6 })))
+    × (step_text 12 (Ok (Outcome.Ended Ending.Chosen 3 (record { stamp = record { counter = 1; writer = 1 }; reading = Reading.Open 6 })))
     ≡ bytes "12,0,chosen,3,1,1,open 6\n")
 unfolding plan_text refusal_text no_header_text step_text row_text decimal digits_by plan_of in_range chosen
 other_rows = (refl, refl, refl, refl)
 
 -- the room that each function requires is needed: this row takes all of it
 pub longest_row
-    : length (step_text 18446744073709551615 (Answer.Accepted (Outcome.Ended Ending.Written 255 (record { stamp = record { counter = 18446744073709551615; writer = 255 }; reading = Reading.Open 255 }))))
+    : length (step_text 18446744073709551615 (Ok (Outcome.Ended Ending.Written 255 (record { stamp = record { counter = 18446744073709551615; writer = 255 }; reading = Reading.Open 255 }))))
     ≡ room
 unfolding step_text row_text decimal digits_by
 longest_row = refl

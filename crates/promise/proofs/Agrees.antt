@@ -86,11 +86,11 @@ module _ (run : Run) (s : Step) where
 
     hear_ok : (t : Told) → Ok (hear_by t plan m.client j c h)
     unfolding first_write first_read second
-    hear_ok Told.Nothing = refl
-    hear_ok (Told.OfWrite r e) = part_ok (leb plan.read (count_of h)) Ending.Chosen _ _ _ _
-    hear_ok (Told.OfRead e) = part_ok (leb plan.read (count_of h)) Ending.Found _ _ _ _
-    hear_ok Told.Wrote = part_ok (leb plan.write (count_of h)) Ending.Written _ _ _ _
-    hear_ok Told.ReadBack = part_ok (leb plan.write (count_of h)) Ending.Read _ _ _ _
+    hear_ok None = refl
+    hear_ok (Some (Told.OfWrite r e)) = part_ok (leb plan.read (count_of h)) Ending.Chosen _ _ _ _
+    hear_ok (Some (Told.OfRead e)) = part_ok (leb plan.read (count_of h)) Ending.Found _ _ _ _
+    hear_ok (Some Told.Wrote) = part_ok (leb plan.write (count_of h)) Ending.Written _ _ _ _
+    hear_ok (Some Told.ReadBack) = part_ok (leb plan.write (count_of h)) Ending.Read _ _ _ _
 
   -- ---- a request
 
@@ -111,7 +111,7 @@ module _ (run : Run) (s : Step) where
 
   -- ---- slots and cabinets
 
-  delivers_ok : (j : ℕ) → Ok (decide_of run (Asked.Delivers j))
+  delivers_ok : (j : ℕ) → Ok (decide_of run (Ok (Asked.Delivers j)))
   unfolding decide_of answers_of hears_of
   delivers_ok j = go (slot_at run j).held refl
     where
@@ -121,7 +121,7 @@ module _ (run : Run) (s : Step) where
       go (Held.Request m) e = answers_ok (cabinet_at run m.cabinet).power j m (sight_of (cabinet_at run m.cabinet))
       go (Held.Reply m) e = let c = client_at run m.client in hear_ok j m e run.plan c (with_of c.heard m.cabinet) (told_of c m)
 
-  loses_ok : (j : ℕ) → Ok (decide_of run (Asked.Loses j))
+  loses_ok : (j : ℕ) → Ok (decide_of run (Ok (Asked.Loses j)))
   unfolding decide_of
   loses_ok j = go (slot_at run j).held
     where
@@ -130,7 +130,7 @@ module _ (run : Run) (s : Step) where
       go (Held.Request m) = refl
       go (Held.Reply m) = refl
 
-  stops_ok : (q : ℕ) → Ok (decide_of run (Asked.Stops q))
+  stops_ok : (q : ℕ) → Ok (decide_of run (Ok (Asked.Stops q)))
   unfolding decide_of
   stops_ok q = go (cabinet_at run q).power
     where
@@ -150,11 +150,11 @@ module _ (run : Run) (s : Step) where
       go true false = refl
       go false u = refl
 
-  restarts_ok : (q : ℕ) → Ok (decide_of run (Asked.Restarts q))
+  restarts_ok : (q : ℕ) → Ok (decide_of run (Ok (Asked.Restarts q)))
   unfolding decide_of
   restarts_ok q = refl
 
-  barred_ok : (why : Refusal) → Ok (decide_of run (Asked.Barred why))
+  barred_ok : (why : Refusal) → Ok (decide_of run (Err why))
   unfolding decide_of
   barred_ok why = refl
 

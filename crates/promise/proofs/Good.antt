@@ -33,7 +33,7 @@ pub record Good (run : Run) : Type 0 where
 pub good_step : (run : Run) (s : Step) → Good run → Good (step_of run s).run
 good_step run s G = record { whole = step_whole run s G.whole; few = step_marked run s G.few }
 
-pub good_fresh : (n k r b : ℕ) (p : Plan) → plan_of n k r b ≡ Planned.Accepted p → Good (fresh_run p)
+pub good_fresh : (n k r b : ℕ) (p : Plan) → plan_of n k r b ≡ Ok p → Good (fresh_run p)
 unfolding fresh_run marked_in
 good_fresh n k r b p e = record { whole = record { shaped = fresh_shaped p; sound = fresh_undamaged n k r b p e }; few = omega arith }
 
@@ -48,7 +48,7 @@ module _ {run : Run} (G : Good run) where
   pub most : run.plan.n ≤ most_cabinets
   most = (cabinets_range run G.whole.sound).1
 
-  accepted : plan_of run.plan.n run.plan.k run.plan.r run.plan.b ≡ Planned.Accepted run.plan
+  accepted : plan_of run.plan.n run.plan.k run.plan.r run.plan.b ≡ Ok run.plan
   accepted = ruled_accepted run.plan (undamaged_says run G.whole.sound).ruled
 
   -- a forgetful line has no store

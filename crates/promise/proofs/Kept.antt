@@ -37,7 +37,7 @@ traced : (run : Run) (ss : List Step) → trace next event run ss ≡ events run
 traced run [] = refl
 traced run (s ∷ ss) = ap (λ (l : List Event). event run s ∷ l) (traced (next run s) ss)
 
-module _ (n k r b : ℕ) (p : Plan) (e : plan_of n k r b ≡ Planned.Accepted p) (ss : List Step) where
+module _ (n k r b : ℕ) (p : Plan) (e : plan_of n k r b ≡ Ok p) (ss : List Step) where
   goes : Goes p (fresh_run p)
   goes = (good_fresh n k r b p e, unfold fresh_run in refl)
 
@@ -58,6 +58,6 @@ unfolding start_of in_range chosen plan_of
 promise_always n k r b ss = go (plan_of n k r b) refl
   where
     go : (x : Planned) → plan_of n k r b ≡ x → Promise (events (start_by x).run ss)
-    go Planned.OutOfRange e = promise 2 0 0 0 (forgetful_plan 2 0 0 0) refl ss
-    go Planned.TooSmall e = promise 2 0 0 0 (forgetful_plan 2 0 0 0) refl ss
-    go (Planned.Accepted p) e = promise n k r b p e ss
+    go (Err Unplanned.OutOfRange) e = promise 2 0 0 0 (forgetful_plan 2 0 0 0) refl ss
+    go (Err Unplanned.TooSmall) e = promise 2 0 0 0 (forgetful_plan 2 0 0 0) refl ss
+    go (Ok p) e = promise n k r b p e ss

@@ -27,8 +27,8 @@ pub record Limits (r : ℕ) (run : Run) : Type 0 where
   pub operations : (c : ℕ) → (client_at run c).operation ≤ run.steps
   pub numbers : (j : ℕ) → held_operation (slot_at run j).held ≤ run.steps
   -- an accepted step is counted, a refused one changes nothing
-  pub accepted : (s : Step) (o : Outcome) → (step_of run s).answer ≡ Answer.Accepted o → (step_of run s).run.steps ≡ run.steps + 1
-  pub refused : (s : Step) (why : Refusal) → (step_of run s).answer ≡ Answer.Refused why → (step_of run s).run ≡ run
+  pub accepted : (s : Step) (o : Outcome) → (step_of run s).answer ≡ Ok o → (step_of run s).run.steps ≡ run.steps + 1
+  pub refused : (s : Step) (why : Refusal) → (step_of run s).answer ≡ Err why → (step_of run s).run ≡ run
 
 -- whatever numbers were planned with, whatever steps followed
 pub limits : (n k r b : ℕ) (ss : List Step) → Limits r (run_all (start_of n k r b).run ss)

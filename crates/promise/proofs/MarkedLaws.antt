@@ -109,15 +109,15 @@ module _ (run : Run) (few : marked_in run.cabinets ≤ run.plan.r) where
   deed_marked : (a : Asked) (d : Deed) → Does run a d
       → marked_in (done_at run.plan run.cabinets (met_at run a).cabinet d) ≤ run.plan.r
   unfolding deed_of
-  deed_marked (Asked.Barred why) d f = absurd f
-  deed_marked (Asked.Begins i w) d f = absurd f
-  deed_marked (Asked.Sends i p) d f = absurd f
-  deed_marked (Asked.Delivers j) d f = absurd f
-  deed_marked (Asked.Loses j) d f = absurd f
-  deed_marked (Asked.Stops p) d f = rw f (same_marked p Deed.GoDown refl)
-  deed_marked (Asked.Leaves i) d f = absurd f
-  deed_marked (Asked.Restarts p) d f = rw f (same_marked p Deed.ComeUp (restarted_marked _ _ (cabinet_at run p)))
-  deed_marked (Asked.RollsBack p j) d f = rw f.0 (back_marked p j f.2)
+  deed_marked (Err why) d f = absurd f
+  deed_marked (Ok (Asked.Begins i w)) d f = absurd f
+  deed_marked (Ok (Asked.Sends i p)) d f = absurd f
+  deed_marked (Ok (Asked.Delivers j)) d f = absurd f
+  deed_marked (Ok (Asked.Loses j)) d f = absurd f
+  deed_marked (Ok (Asked.Stops p)) d f = rw f (same_marked p Deed.GoDown refl)
+  deed_marked (Ok (Asked.Leaves i)) d f = absurd f
+  deed_marked (Ok (Asked.Restarts p)) d f = rw f (same_marked p Deed.ComeUp (restarted_marked _ _ (cabinet_at run p)))
+  deed_marked (Ok (Asked.RollsBack p j)) d f = rw f.0 (back_marked p j f.2)
 
   put_marked : (a : Asked) (x : Decision) → Meets (Does run a) (met_at run a) x
       → marked_in (put_back run x).run.cabinets ≤ (put_back run x).run.plan.r
@@ -149,9 +149,9 @@ unfolding start_of fresh_run marked_in
 start_marked n k r b = go _ refl
   where
     go : (x : Planned) → plan_of n k r b ≡ x → (marked_in (start_by x).run.cabinets ≡ 0) × ((start_by x).run.plan.r ≤ r)
-    go Planned.OutOfRange e = (refl, omega arith)
-    go Planned.TooSmall e = (refl, omega arith)
-    go (Planned.Accepted p) e = let m = numbers n k r b p e in (refl, omega arith)
+    go (Err Unplanned.OutOfRange) e = (refl, omega arith)
+    go (Err Unplanned.TooSmall) e = (refl, omega arith)
+    go (Ok p) e = let m = numbers n k r b p e in (refl, omega arith)
 
 pub at_most_r : (n k r b : ℕ) (ss : List Step) → marked_in (run_all (start_of n k r b).run ss).cabinets ≤ r
 at_most_r n k r b ss =

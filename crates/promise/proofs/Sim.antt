@@ -142,7 +142,7 @@ module _ (run : Run) (G : Good run) (s : Step) where
 
   -- ---- deliver, lose
 
-  sim_delivers : (j : ℕ) → Moves run s (decide_of run (Asked.Delivers j))
+  sim_delivers : (j : ℕ) → Moves run s (decide_of run (Ok (Asked.Delivers j)))
   unfolding decide_of
   sim_delivers j = go (slot_at run j).held refl (holds run G.whole.sound j)
     where
@@ -152,7 +152,7 @@ module _ (run : Run) (G : Good run) (s : Step) where
       go (Held.Request m) e f = sim_asked j m e (address_says run.plan.n run.steps m f.0).2
       go (Held.Reply m) e f = let a = address_says run.plan.n run.steps m f.0 in sim_reply run G s j m e a.1 a.2
 
-  sim_loses : (j : ℕ) → Moves run s (decide_of run (Asked.Loses j))
+  sim_loses : (j : ℕ) → Moves run s (decide_of run (Ok (Asked.Loses j)))
   unfolding decide_of
   sim_loses j = go (slot_at run j).held
     where
@@ -163,7 +163,7 @@ module _ (run : Run) (G : Good run) (s : Step) where
 
   -- ---- stop, restart, rollback
 
-  sim_stops : (q : ℕ) → Moves run s (decide_of run (Asked.Stops q))
+  sim_stops : (q : ℕ) → Moves run s (decide_of run (Ok (Asked.Stops q)))
   unfolding decide_of
   sim_stops q = go (cabinet_at run q).power
     where
@@ -172,11 +172,11 @@ module _ (run : Run) (G : Good run) (s : Step) where
       go Power.Up = sim_stop Quorum run q
       go Power.Stale = sim_stop Quorum run q
 
-  sim_restarts : (q : ℕ) → Moves run s (decide_of run (Asked.Restarts q))
+  sim_restarts : (q : ℕ) → Moves run s (decide_of run (Ok (Asked.Restarts q)))
   unfolding decide_of
   sim_restarts q = sim_restart Quorum run q (λ e. no_store G e q)
 
-  sim_rolls : (q j : ℕ) → Moves run s (decide_of run (Asked.RollsBack q j))
+  sim_rolls : (q j : ℕ) → Moves run s (decide_of run (Ok (Asked.RollsBack q j)))
   unfolding decide_of rolls_of
   sim_rolls q j =
       go (goes_back (stored_in run.plan q) j (cabinet_at run q))
@@ -207,7 +207,7 @@ module _ (run : Run) (G : Good run) where
   sim_placed (Step.Restart k) h = sim_restarts run G (Step.Restart k) (k - 1)
   sim_placed (Step.Rollback k j) h = sim_rolls run G (Step.Rollback k j) (k - 1) j
 
-  sim_barred : (s : Step) (why : Refusal) → Moves run s (decide_of run (Asked.Barred why))
+  sim_barred : (s : Step) (why : Refusal) → Moves run s (decide_of run (Err why))
   unfolding decide_of
   sim_barred s why = refused_stays run
 

@@ -199,10 +199,10 @@ module _ (run : Run) (G : Good run) (s : Step) (j : ℕ) (m : Message) (at_j : (
   to_work Work.FirstRead wk num new h = to_read num new (within run.plan.read h) m.body wk refl
   to_work Work.SecondWrite wk num new h =
       let w = within run.plan.write h in
-      to_second num new w Told.Wrote m.body refl (sim_ack num new w write Work.SecondWrite Ending.Written wk (λ H. refl) refl)
+      to_second num new w (Some Told.Wrote) m.body refl (sim_ack num new w write Work.SecondWrite Ending.Written wk (λ H. refl) refl)
   to_work Work.SecondRead wk num new h =
       let w = within run.plan.write h in
-      to_second num new w Told.ReadBack m.body refl (sim_ack num new w read Work.SecondRead Ending.Read wk (λ H. refl) refl)
+      to_second num new w (Some Told.ReadBack) m.body refl (sim_ack num new w read Work.SecondRead Ending.Read wk (λ H. refl) refl)
 
   not_yet : (b : Bool) → not b ≡ true → b ≡ false
   not_yet true h = absurd (true≢false (sym h))
@@ -215,7 +215,7 @@ module _ (run : Run) (G : Good run) (s : Step) (j : ℕ) (m : Message) (at_j : (
   unfolding hears_of told_of
   sim_reply = go (awaits x m) refl
     where
-      go : (t : Bool) → awaits x m ≡ t → Moves run s (hear_by (cond t (told_by x.work m.body) Told.Nothing) run.plan i j x heard)
+      go : (t : Bool) → awaits x m ≡ t → Moves run s (hear_by (cond t (told_by x.work m.body) None) run.plan i j x heard)
       go false e = discards
       go true e =
           let a = both (eqb x.operation m.operation) _ e in

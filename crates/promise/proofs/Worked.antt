@@ -75,20 +75,20 @@ r1 =
     Step.Deliver 1 ∷ []
 
 pub record Worked : Type 0 where
-  pub forgetful_planned : (start_of 3 1 0 0).planned ≡ Planned.Accepted (forgetful_plan 3 1 0 0)
+  pub forgetful_planned : (start_of 3 1 0 0).planned ≡ Ok (forgetful_plan 3 1 0 0)
   pub forgetful : events (start_of 3 1 0 0).run p1
       ≡ begun 0 1 (writes Reading.Closed) ∷ quiet 5 (chosen 0 1 (first Reading.Closed) ∷ quiet 5 (finished 0 1 write (first Reading.Closed)
       ∷ begun 1 1 reads ∷ quiet 11 (finished 1 1 read (first Reading.Closed) ∷ [])))
-  pub store_planned : (start_of 4 1 1 2).planned ≡ Planned.Accepted (store_plan 4 1 1 2)
+  pub store_planned : (start_of 4 1 1 2).planned ≡ Ok (store_plan 4 1 1 2)
   pub store : events (start_of 4 1 1 2).run (p3 1) ≡ p3_told
   -- to the factory entry: it is rolled back, and the read shows the same
   pub factory_marked : (cabinet_at (run_all (start_of 4 1 1 2).run (p3 to_factory)) 0).marked ≡ true
   pub factory : events (start_of 4 1 1 2).run (p3 to_factory) ≡ p3_told
   -- R1
   pub r1_answers : answers (start_of 3 1 0 0).run r1
-      ≡ Answer.Accepted Outcome.Begun ∷ Answer.Accepted (Outcome.Sent 1) ∷ Answer.Accepted (Outcome.Answered 1) ∷ Answer.Accepted
-      (Outcome.Counted 1) ∷ Answer.Accepted Outcome.Restarted
-      ∷ Answer.Accepted (Outcome.Sent 1) ∷ Answer.Accepted (Outcome.Unanswered 1) ∷ Answer.Refused Refusal.NoMessage ∷ []
+      ≡ Ok Outcome.Begun ∷ Ok (Outcome.Sent 1) ∷ Ok (Outcome.Answered 1) ∷ Ok
+      (Outcome.Counted 1) ∷ Ok Outcome.Restarted
+      ∷ Ok (Outcome.Sent 1) ∷ Ok (Outcome.Unanswered 1) ∷ Err Refusal.NoMessage ∷ []
   pub r1_events : events (start_of 3 1 0 0).run r1 ≡ begun 0 1 (writes (Reading.Open 6)) ∷ quiet 7 []
 
 -- every definition that a step uses is opened, so that the lists compute

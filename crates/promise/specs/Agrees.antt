@@ -34,5 +34,5 @@ Has run s after Outcome.RolledBack x = x ≡ nothing
 
 -- S19.6: the event that an answer has
 abbrev pub Agrees : Run → Step → Run → Answer → Event → Type 0
-Agrees run s after (Answer.Refused why) x = x ≡ nothing
-Agrees run s after (Answer.Accepted o) x = Has run s after o x
+Agrees run s after (Err why) x = x ≡ nothing
+Agrees run s after (Ok o) x = Has run s after o x

@@ -68,8 +68,8 @@ outcome_event run s after Outcome.RolledBack = nothing
 
 -- S19.6: the event of an answer; a refusal has none
 abbrev pub answer_event : Run → Step → Run → Answer → Event
-answer_event run s after (Answer.Refused why) = nothing
-answer_event run s after (Answer.Accepted o) = outcome_event run s after o
+answer_event run s after (Err why) = nothing
+answer_event run s after (Ok o) = outcome_event run s after o
 
 -- S19.6: the event of one step
 unfoldable pub event : Run → Step → Event

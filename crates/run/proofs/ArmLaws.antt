@@ -28,11 +28,11 @@ use Rattle.run.proofs.MeetLaws.{asked_of}
 -- ---- what an arm leaves behind
 
 abbrev pub refused : Run → Refusal → Stepped
-refused run why = record { answer = Answer.Refused why; run = run }
+refused run why = record { answer = Err why; run = run }
 
 -- an accepted step, with what it stored
 abbrev pub stored : Run → Outcome → List Cabinet → List Client → List Slot → Stepped
-stored run o ks cs ts = record { answer = Answer.Accepted o; run = record { plan = run.plan; steps = run.steps + 1; cabinets = ks; clients = cs; slots = ts } }
+stored run o ks cs ts = record { answer = Ok o; run = record { plan = run.plan; steps = run.steps + 1; cabinets = ks; clients = cs; slots = ts } }
 
 -- the place behind admission, which every arm passes
 pub record Admitted (run : Run) (s : Step) : Type 0 where
@@ -58,97 +58,97 @@ module _ {run : Run} {s : Step} (h : Admitted run s) where
   below : {p : ℕ} → p < run.plan.n → p < most_cabinets
   below l = omega (arith, l, (cabinets_range run h.whole).1)
 
-  pub begins_place : {i : ℕ} {w : Work} → h.asked ≡ Asked.Begins i w → i < most_clients
+  pub begins_place : {i : ℕ} {w : Work} → h.asked ≡ Ok (Asked.Begins i w) → i < most_clients
   begins_place e = (places e).0
 
-  pub leaves_place : {i : ℕ} → h.asked ≡ Asked.Leaves i → i < most_clients
+  pub leaves_place : {i : ℕ} → h.asked ≡ Ok (Asked.Leaves i) → i < most_clients
   leaves_place e = places e
 
-  pub sends_place : {i p : ℕ} → h.asked ≡ Asked.Sends i p → i < most_clients
+  pub sends_place : {i p : ℕ} → h.asked ≡ Ok (Asked.Sends i p) → i < most_clients
   sends_place e = (places e).0
 
-  pub delivers_place : {j : ℕ} → h.asked ≡ Asked.Delivers j → j < most_slots
+  pub delivers_place : {j : ℕ} → h.asked ≡ Ok (Asked.Delivers j) → j < most_slots
   delivers_place e = places e
 
-  pub loses_place : {j : ℕ} → h.asked ≡ Asked.Loses j → j < most_slots
+  pub loses_place : {j : ℕ} → h.asked ≡ Ok (Asked.Loses j) → j < most_slots
   loses_place e = places e
 
-  pub stops_place : {p : ℕ} → h.asked ≡ Asked.Stops p → p < most_cabinets
+  pub stops_place : {p : ℕ} → h.asked ≡ Ok (Asked.Stops p) → p < most_cabinets
   stops_place e = below (places e)
 
-  pub restarts_place : {p : ℕ} → h.asked ≡ Asked.Restarts p → p < most_cabinets
+  pub restarts_place : {p : ℕ} → h.asked ≡ Ok (Asked.Restarts p) → p < most_cabinets
   restarts_place e = below (places e)
 
-  pub rolls_place : {p j : ℕ} → h.asked ≡ Asked.RollsBack p j → p < most_cabinets
+  pub rolls_place : {p j : ℕ} → h.asked ≡ Ok (Asked.RollsBack p j) → p < most_cabinets
   rolls_place e = below (places e).0
 
 -- ---- the client's own steps
 
 module _ {run : Run} {s : Step} (h : Admitted run s) where
-  pub bars : {why : Refusal} → h.asked ≡ Asked.Barred why → step_of run s ≡ refused run why
+  pub bars : {why : Refusal} → h.asked ≡ Err why → step_of run s ≡ refused run why
   unfolding decide_of
   bars e = arm h e refl
 
-  module _ {i : ℕ} {w : Work} (e : h.asked ≡ Asked.Begins i w) {m : Moved} (f : (i₁ : ℕ) → begins_of i₁ (get_or run.clients i fresh_client) w ≡ moved_as Outcome.Begun i₁ m) where
+  module _ {i : ℕ} {w : Work} (e : h.asked ≡ (Ok (Asked.Begins i w))) {m : Moved} (f : (i₁ : ℕ) → begins_of i₁ (get_or run.clients i fresh_client) w ≡ moved_as Outcome.Begun i₁ m) where
     begins_by : {x : Moved} → m ≡ x → step_of run s ≡ put_back run (moved_as Outcome.Begun i x)
     unfolding decide_of client_at
     begins_by g = arm h e (f i ∙ ap (moved_as Outcome.Begun i) g)
 
-    pub begins_not : {why : Refusal} → m ≡ Moved.Not why → step_of run s ≡ refused run why
+    pub begins_not : {why : Refusal} → m ≡ Err why → step_of run s ≡ refused run why
     begins_not g = begins_by g
 
-    pub begins_to : {c : Client} → m ≡ Moved.To c
+    pub begins_to : {c : Client} → m ≡ Ok c
         → step_of run s ≡ stored run Outcome.Begun run.cabinets (set run.clients i c) run.slots
     unfolding changed
     begins_to g = begins_by g
 
-  module _ {i : ℕ} (e : h.asked ≡ Asked.Leaves i) {m : Moved} (f : (i₁ : ℕ) → leaves_of i₁ (get_or run.clients i fresh_client) ≡ moved_as Outcome.Left i₁ m) where
+  module _ {i : ℕ} (e : h.asked ≡ (Ok (Asked.Leaves i))) {m : Moved} (f : (i₁ : ℕ) → leaves_of i₁ (get_or run.clients i fresh_client) ≡ moved_as Outcome.Left i₁ m) where
     leaves_by : {x : Moved} → m ≡ x → step_of run s ≡ put_back run (moved_as Outcome.Left i x)
     unfolding decide_of client_at
     leaves_by g = arm h e (f i ∙ ap (moved_as Outcome.Left i) g)
 
-    pub leaves_not : {why : Refusal} → m ≡ Moved.Not why → step_of run s ≡ refused run why
+    pub leaves_not : {why : Refusal} → m ≡ Err why → step_of run s ≡ refused run why
     leaves_not g = leaves_by g
 
-    pub leaves_to : {c : Client} → m ≡ Moved.To c
+    pub leaves_to : {c : Client} → m ≡ Ok c
         → step_of run s ≡ stored run Outcome.Left run.cabinets (set run.clients i c) run.slots
     unfolding changed
     leaves_to g = leaves_by g
 
-  module _ {i p : ℕ} (e : h.asked ≡ Asked.Sends i p) {a : Asking} (f : (free : ℕ) → sends_of i p (get_or run.clients i fresh_client) free ≡ asking_as free a) where
+  module _ {i p : ℕ} (e : h.asked ≡ (Ok (Asked.Sends i p))) {a : Asking} (f : (free : ℕ) → sends_of i p (get_or run.clients i fresh_client) free ≡ asking_as free a) where
     sends_by : {x : Asking} → a ≡ x → step_of run s ≡ put_back run (asking_as (first_from 0 run.slots) x)
     unfolding decide_of client_at
     sends_by g = arm h e (f (first_from 0 run.slots) ∙ ap (asking_as (first_from 0 run.slots)) g)
 
-    pub sends_not : {why : Refusal} → a ≡ Asking.Not why → step_of run s ≡ refused run why
+    pub sends_not : {why : Refusal} → a ≡ Err why → step_of run s ≡ refused run why
     sends_not g = sends_by g
 
-    module _ {t : Slot} (g : a ≡ Asking.Puts t) where
+    module _ {t : Slot} (g : a ≡ Ok t) where
       pub sends_in : {j : ℕ} → first_from 0 run.slots ≡ j → j < most_slots
           → step_of run s ≡ stored run (Outcome.Sent (j + 1)) run.cabinets run.clients (set run.slots j t)
       unfolding changed
       sends_in {j} free l =
-          let z : asking_as (first_from 0 run.slots) (Asking.Puts t) ≡ Decision.Yes (Outcome.Sent (j + 1)) (Change.OfSlot j t) = rw (free, lt-leb _ _ l) in
+          let z : asking_as (first_from 0 run.slots) (Ok t) ≡ Decision.Yes (Outcome.Sent (j + 1)) (Change.OfSlot j t) = rw (free, lt-leb _ _ l) in
           sends_by g ∙ ap (put_back run) z
 
       pub sends_full : most_slots ≤ first_from 0 run.slots → step_of run s ≡ refused run Refusal.Full
       sends_full l =
-          let z : asking_as (first_from 0 run.slots) (Asking.Puts t) ≡ Decision.No Refusal.Full = rw (le-leb _ _ l) in
+          let z : asking_as (first_from 0 run.slots) (Ok t) ≡ Decision.No Refusal.Full = rw (le-leb _ _ l) in
           sends_by g ∙ ap (put_back run) z
 
 -- ---- a delivery
 
-module _ {run : Run} {s : Step} (h : Admitted run s) {j : ℕ} (e : h.asked ≡ Asked.Delivers j) where
+module _ {run : Run} {s : Step} (h : Admitted run s) {j : ℕ} (e : h.asked ≡ (Ok (Asked.Delivers j))) where
   pub delivers_nothing : (get_or run.slots j empty_slot).held ≡ Held.Empty → step_of run s ≡ refused run Refusal.NoMessage
   unfolding decide_of slot_at
-  delivers_nothing g = let z : decide_of run (Asked.Delivers j) ≡ Decision.No Refusal.NoMessage = rw g in arm h e z
+  delivers_nothing g = let z : decide_of run (Ok (Asked.Delivers j)) ≡ Decision.No Refusal.NoMessage = rw g in arm h e z
 
   module _ {m : Message} (g : (get_or run.slots j empty_slot).held ≡ Held.Request m) {k : Sight} (seen : k ≡ sight_of (get_or run.cabinets m.cabinet no_cabinet))
       {b : Back} (f : (j₁ : ℕ) → answers_of j₁ m k ≡ back_as j₁ m b) where
     request_by : {x : Back} → b ≡ x → step_of run s ≡ put_back run (back_as j m x)
     unfolding decide_of slot_at cabinet_at
     request_by {x} z =
-        let q : decide_of run (Asked.Delivers j) ≡ back_as j m x = rw g (ap (answers_of j m) (sym seen) ∙ f j ∙ ap (back_as j m) z) in
+        let q : decide_of run (Ok (Asked.Delivers j)) ≡ back_as j m x = rw g (ap (answers_of j m) (sym seen) ∙ f j ∙ ap (back_as j m) z) in
         arm h e q
 
     pub request_silent : b ≡ Back.Silent
@@ -172,7 +172,7 @@ module _ {run : Run} {s : Step} (h : Admitted run s) {j : ℕ} (e : h.asked ≡ 
     reply_by : {y : Hears} → x ≡ y → step_of run s ≡ put_back run (hears_as m.client j y)
     unfolding decide_of slot_at client_at
     reply_by {y} z =
-        let q : decide_of run (Asked.Delivers j) ≡ hears_as m.client j y = rw g (f j ∙ ap (hears_as m.client j) z) in
+        let q : decide_of run (Ok (Asked.Delivers j)) ≡ hears_as m.client j y = rw g (f j ∙ ap (hears_as m.client j) z) in
         arm h e q
 
     pub reply_nothing : x ≡ Hears.Nothing
@@ -211,7 +211,7 @@ by_down Power.Up p = refl
 by_down Power.Stale p = refl
 
 module _ {run : Run} {s : Step} (h : Admitted run s) where
-  module _ {j : ℕ} (e : h.asked ≡ Asked.Loses j) where
+  module _ {j : ℕ} (e : h.asked ≡ (Ok (Asked.Loses j))) where
     pub loses_nothing : is_empty (get_or run.slots j empty_slot).held ≡ true → step_of run s ≡ refused run Refusal.NoMessage
     unfolding decide_of slot_at
     loses_nothing g = arm h e (lost_none (get_or run.slots j empty_slot).held j g)
@@ -221,31 +221,31 @@ module _ {run : Run} {s : Step} (h : Admitted run s) where
     unfolding decide_of slot_at changed
     loses_one g = arm h e (lost_one (get_or run.slots j empty_slot).held j g)
 
-  module _ {p : ℕ} (e : h.asked ≡ Asked.Stops p) where
+  module _ {p : ℕ} (e : h.asked ≡ (Ok (Asked.Stops p))) where
     pub stops_not : is_down (get_or run.cabinets p no_cabinet).power ≡ true → step_of run s ≡ refused run Refusal.IsDown
     unfolding decide_of cabinet_at
     stops_not g =
-        let z : decide_of run (Asked.Stops p) ≡ Decision.No Refusal.IsDown = rw g at (by_down (get_or run.cabinets p no_cabinet).power p) in
+        let z : decide_of run (Ok (Asked.Stops p)) ≡ Decision.No Refusal.IsDown = rw g at (by_down (get_or run.cabinets p no_cabinet).power p) in
         arm h e z
 
     pub stops_to : is_down (get_or run.cabinets p no_cabinet).power ≡ false → {k : Cabinet} → k ≡ stopped (get_or run.cabinets p no_cabinet)
         → step_of run s ≡ stored run Outcome.Stopped (set run.cabinets p k) run.clients run.slots
     unfolding decide_of cabinet_at changed done_at deed_of
     stops_to g q =
-        let z : decide_of run (Asked.Stops p) ≡ Decision.Yes Outcome.Stopped (Change.OfCabinet p Deed.GoDown) = rw g at (by_down (get_or run.cabinets p no_cabinet).power p) in
+        let z : decide_of run (Ok (Asked.Stops p)) ≡ Decision.Yes Outcome.Stopped (Change.OfCabinet p Deed.GoDown) = rw g at (by_down (get_or run.cabinets p no_cabinet).power p) in
         rw q (arm h e z)
 
-  pub restarts_to : {p : ℕ} → h.asked ≡ Asked.Restarts p → {f : Bool} → f ≡ is_forgetful run.plan.profile
+  pub restarts_to : {p : ℕ} → h.asked ≡ Ok (Asked.Restarts p) → {f : Bool} → f ≡ is_forgetful run.plan.profile
       → {k : Cabinet} → k ≡ restarted (stored_in run.plan p) f (get_or run.cabinets p no_cabinet)
       → step_of run s ≡ stored run Outcome.Restarted (set run.cabinets p k) run.clients run.slots
   unfolding decide_of changed done_at deed_of
   restarts_to e g q = rw (q, g) (arm h e refl)
 
-  module _ {p j : ℕ} (e : h.asked ≡ Asked.RollsBack p j) where
+  module _ {p j : ℕ} (e : h.asked ≡ (Ok (Asked.RollsBack p j))) where
     pub rolls_nowhere : goes_back (stored_in run.plan p) j (get_or run.cabinets p no_cabinet) ≡ false
         → step_of run s ≡ refused run Refusal.NoVersion
     unfolding decide_of cabinet_at rolls_of
-    rolls_nowhere g = let z : decide_of run (Asked.RollsBack p j) ≡ Decision.No Refusal.NoVersion = rw g in arm h e z
+    rolls_nowhere g = let z : decide_of run (Ok (Asked.RollsBack p j)) ≡ Decision.No Refusal.NoVersion = rw g in arm h e z
 
     module _ (g : goes_back (stored_in run.plan p) j (get_or run.cabinets p no_cabinet) ≡ true) {o : ℕ} (z : o ≡ others_from p 0 run.cabinets) where
       pub rolls_not : ((get_or run.cabinets p no_cabinet).marked || ltb o run.plan.r) ≡ false
@@ -253,7 +253,7 @@ module _ {run : Run} {s : Step} (h : Admitted run s) where
       unfolding decide_of cabinet_at rolls_of
       rolls_not l =
           let many : ((get_or run.cabinets p no_cabinet).marked || ltb (others_from p 0 run.cabinets) run.plan.r) ≡ false = rw z at l in
-          let y : decide_of run (Asked.RollsBack p j) ≡ Decision.No Refusal.TooMany = rw (g, many) in
+          let y : decide_of run (Ok (Asked.RollsBack p j)) ≡ Decision.No Refusal.TooMany = rw (g, many) in
           arm h e y
 
       pub rolls_to : ((get_or run.cabinets p no_cabinet).marked || ltb o run.plan.r) ≡ true
@@ -262,5 +262,5 @@ module _ {run : Run} {s : Step} (h : Admitted run s) where
       unfolding decide_of cabinet_at rolls_of changed done_at deed_of
       rolls_to l q =
           let few : ((get_or run.cabinets p no_cabinet).marked || ltb (others_from p 0 run.cabinets) run.plan.r) ≡ true = rw z at l in
-          let y : decide_of run (Asked.RollsBack p j) ≡ Decision.Yes Outcome.RolledBack (Change.OfCabinet p (Deed.GoBack j)) = rw (g, few) in
+          let y : decide_of run (Ok (Asked.RollsBack p j)) ≡ Decision.Yes Outcome.RolledBack (Change.OfCabinet p (Deed.GoBack j)) = rw (g, few) in
           rw q (arm h e y)

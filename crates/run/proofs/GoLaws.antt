@@ -17,7 +17,7 @@ pub whole : (run₀ : Run) (s : Step) (b : Bool) (says : Answer) (run : Run) →
 whole run₀ s b says run e inv = subst (λ (d : Bool). Doing run₀ s d says run) e inv
 
 -- a damaged run is answered before the loop
-pub starts : (run : Run) (s : Step) (b : Bool) → b ≡ undamaged run → Doing run s b (Answer.Refused Refusal.Damaged) run
+pub starts : (run : Run) (s : Step) (b : Bool) → b ≡ undamaged run → Doing run s b (Err Refusal.Damaged) run
 starts run s true e = (sym e, refl)
 starts run s false e = step_damaged run s (sym e)
 

@@ -58,11 +58,11 @@ module _ (may : Deed → Type 0) (at : Met) where
 
   hears_at : (d : Told) (plan : Plan) (c : Client) (h : Heard) → Meets may at (hear_by d plan at.client at.slot c h)
   unfolding first_write first_read second
-  hears_at Told.Nothing plan c h = on_slot
-  hears_at (Told.OfWrite r e) plan c h = either (Meets may at) (leb plan.read (count_of h)) _ _ on_hearing on_hearing
-  hears_at (Told.OfRead e) plan c h = either (Meets may at) (leb plan.read (count_of h)) _ _ on_hearing on_hearing
-  hears_at Told.Wrote plan c h = either (Meets may at) (leb plan.write (count_of h)) _ _ on_hearing on_hearing
-  hears_at Told.ReadBack plan c h = either (Meets may at) (leb plan.write (count_of h)) _ _ on_hearing on_hearing
+  hears_at None plan c h = on_slot
+  hears_at (Some (Told.OfWrite r e)) plan c h = either (Meets may at) (leb plan.read (count_of h)) _ _ on_hearing on_hearing
+  hears_at (Some (Told.OfRead e)) plan c h = either (Meets may at) (leb plan.read (count_of h)) _ _ on_hearing on_hearing
+  hears_at (Some Told.Wrote) plan c h = either (Meets may at) (leb plan.write (count_of h)) _ _ on_hearing on_hearing
+  hears_at (Some Told.ReadBack) plan c h = either (Meets may at) (leb plan.write (count_of h)) _ _ on_hearing on_hearing
 
   loses_at : (h : Held) → Meets may at (loses_by h at.slot)
   loses_at Held.Empty = refuses
@@ -100,30 +100,30 @@ met_by (Held.Reply m) j = met m.client most_cabinets j
 
 -- it goes by the slots alone
 abbrev met_in : List Slot → Asked → Met
-met_in l (Asked.Barred why) = met most_clients most_cabinets most_slots
-met_in l (Asked.Begins i w) = met i most_cabinets most_slots
-met_in l (Asked.Leaves i) = met i most_cabinets most_slots
-met_in l (Asked.Sends i p) = met most_clients most_cabinets (first_from 0 l)
-met_in l (Asked.Delivers j) = met_by (get_or l j empty_slot).held j
-met_in l (Asked.Loses j) = met most_clients most_cabinets j
-met_in l (Asked.Stops p) = met most_clients p most_slots
-met_in l (Asked.Restarts p) = met most_clients p most_slots
-met_in l (Asked.RollsBack p j) = met most_clients p most_slots
+met_in l (Err why) = met most_clients most_cabinets most_slots
+met_in l (Ok (Asked.Begins i w)) = met i most_cabinets most_slots
+met_in l (Ok (Asked.Leaves i)) = met i most_cabinets most_slots
+met_in l (Ok (Asked.Sends i p)) = met most_clients most_cabinets (first_from 0 l)
+met_in l (Ok (Asked.Delivers j)) = met_by (get_or l j empty_slot).held j
+met_in l (Ok (Asked.Loses j)) = met most_clients most_cabinets j
+met_in l (Ok (Asked.Stops p)) = met most_clients p most_slots
+met_in l (Ok (Asked.Restarts p)) = met most_clients p most_slots
+met_in l (Ok (Asked.RollsBack p j)) = met most_clients p most_slots
 
 abbrev pub met_at : Run → Asked → Met
 met_at run a = met_in run.slots a
 
 -- the deed of a stop, a restart and a rollback that is let through; no other step has one
 abbrev pub Does : Run → Asked → Deed → Type 0
-Does run (Asked.Barred why) d = ⊥
-Does run (Asked.Begins i w) d = ⊥
-Does run (Asked.Leaves i) d = ⊥
-Does run (Asked.Sends i p) d = ⊥
-Does run (Asked.Delivers j) d = ⊥
-Does run (Asked.Loses j) d = ⊥
-Does run (Asked.Stops p) d = d ≡ Deed.GoDown
-Does run (Asked.Restarts p) d = d ≡ Deed.ComeUp
-Does run (Asked.RollsBack p j) d =
+Does run (Err why) d = ⊥
+Does run (Ok (Asked.Begins i w)) d = ⊥
+Does run (Ok (Asked.Leaves i)) d = ⊥
+Does run (Ok (Asked.Sends i p)) d = ⊥
+Does run (Ok (Asked.Delivers j)) d = ⊥
+Does run (Ok (Asked.Loses j)) d = ⊥
+Does run (Ok (Asked.Stops p)) d = d ≡ Deed.GoDown
+Does run (Ok (Asked.Restarts p)) d = d ≡ Deed.ComeUp
+Does run (Ok (Asked.RollsBack p j)) d =
     (d ≡ Deed.GoBack j)
     × (goes_back (stored_in run.plan p) j (cabinet_at run p) ≡ true)
     × ((cabinet_at run p).marked || ltb (others_from p 0 run.cabinets) run.plan.r ≡ true)
@@ -136,13 +136,13 @@ module _ (run : Run) where
   delivers_at may j (Held.Reply m) =
       hears_at may (met m.client most_cabinets j) (told_of (client_at run m.client) m) run.plan (client_at run m.client) _
 
-  rolls_at : (p j : ℕ) → Meets (Does run (Asked.RollsBack p j)) (met most_clients p most_slots) (decide_of run (Asked.RollsBack p j))
+  rolls_at : (p j : ℕ) → Meets (Does run (Ok (Asked.RollsBack p j))) (met most_clients p most_slots) (decide_of run (Ok (Asked.RollsBack p j)))
   unfolding decide_of rolls_of
   rolls_at p j = go _ _ refl refl
     where
       go : (s t : Bool) → goes_back (stored_in run.plan p) j (cabinet_at run p) ≡ s
           → (cabinet_at run p).marked || ltb (others_from p 0 run.cabinets) run.plan.r ≡ t
-          → Meets (Does run (Asked.RollsBack p j)) (met most_clients p most_slots)
+          → Meets (Does run (Ok (Asked.RollsBack p j))) (met most_clients p most_slots)
           (cond s (cond t (Decision.Yes Outcome.RolledBack (Change.OfCabinet p (Deed.GoBack j))) (Decision.No Refusal.TooMany)) (Decision.No Refusal.NoVersion))
       go true true e f = on_cabinet (refl, e, f)
       go true false e f = refuses
@@ -150,13 +150,13 @@ module _ (run : Run) where
 
   pub run_at : (a : Asked) → Meets (Does run a) (met_at run a) (decide_of run a)
   unfolding decide_of slot_at begins_of sends_of leaves_of
-  run_at (Asked.Barred why) = refuses
-  run_at (Asked.Begins i w) = begins_at _ (met i most_cabinets most_slots) (standing_of (client_at run i).work) (client_at run i) w
-  run_at (Asked.Leaves i) = leaves_at _ (met i most_cabinets most_slots) (standing_of (client_at run i).work) (client_at run i)
-  run_at (Asked.Sends i p) =
+  run_at (Err why) = refuses
+  run_at (Ok (Asked.Begins i w)) = begins_at _ (met i most_cabinets most_slots) (standing_of (client_at run i).work) (client_at run i) w
+  run_at (Ok (Asked.Leaves i)) = leaves_at _ (met i most_cabinets most_slots) (standing_of (client_at run i).work) (client_at run i)
+  run_at (Ok (Asked.Sends i p)) =
       sends_at _ (met most_clients most_cabinets (first_from 0 run.slots)) (standing_of (client_at run i).work) i p (client_at run i)
-  run_at (Asked.Delivers j) = delivers_at _ j (slot_at run j).held
-  run_at (Asked.Loses j) = loses_at _ (met most_clients most_cabinets j) (slot_at run j).held
-  run_at (Asked.Stops p) = stops_at _ (met most_clients p most_slots) (cabinet_at run p).power refl
-  run_at (Asked.Restarts p) = on_cabinet refl
-  run_at (Asked.RollsBack p j) = rolls_at p j
+  run_at (Ok (Asked.Delivers j)) = delivers_at _ j (slot_at run j).held
+  run_at (Ok (Asked.Loses j)) = loses_at _ (met most_clients most_cabinets j) (slot_at run j).held
+  run_at (Ok (Asked.Stops p)) = stops_at _ (met most_clients p most_slots) (cabinet_at run p).power refl
+  run_at (Ok (Asked.Restarts p)) = on_cabinet refl
+  run_at (Ok (Asked.RollsBack p j)) = rolls_at p j

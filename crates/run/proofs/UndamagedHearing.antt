@@ -22,12 +22,12 @@ use Rattle.run.proofs.UndamagedClients.{none_sound}
 
 -- what is told is sound, and of the part that is open
 abbrev Fair : Plan → ℕ → Client → Told → Type 0
-Fair plan steps c Told.Nothing = Unit {0}
-Fair plan steps c (Told.OfWrite r e) =
+Fair plan steps c None = Unit {0}
+Fair plan steps c (Some (Told.OfWrite r e)) =
     (c.work ≡ Work.FirstWrite r) × (entry_sound steps e ≡ true) × (reading_in r ≡ true) × (within_of c.heard plan.n ≡ true)
-Fair plan steps c (Told.OfRead e) = (c.work ≡ Work.FirstRead) × (entry_sound steps e ≡ true) × (within_of c.heard plan.n ≡ true)
-Fair plan steps c Told.Wrote = (c.work ≡ Work.SecondWrite) × (within_of c.heard plan.n ≡ true)
-Fair plan steps c Told.ReadBack = (c.work ≡ Work.SecondRead) × (within_of c.heard plan.n ≡ true)
+Fair plan steps c (Some (Told.OfRead e)) = (c.work ≡ Work.FirstRead) × (entry_sound steps e ≡ true) × (within_of c.heard plan.n ≡ true)
+Fair plan steps c (Some Told.Wrote) = (c.work ≡ Work.SecondWrite) × (within_of c.heard plan.n ≡ true)
+Fair plan steps c (Some Told.ReadBack) = (c.work ≡ Work.SecondRead) × (within_of c.heard plan.n ≡ true)
 
 module _ (plan : Plan) (steps part : ℕ) (c : Client) where
   stamp_fair : (r : Reading) (b : Body) → c.work ≡ Work.FirstWrite r → reading_in r ≡ true → within_of c.heard plan.n ≡ true
@@ -64,15 +64,15 @@ module _ (plan : Plan) (steps part : ℕ) (c : Client) where
       let f = both (reading_in r) _ h in
       stamp_fair r b e f.0 (heard_says plan.n plan.read c.heard f.1).0 t
   work_fair Work.FirstRead b e h t = entry_fair b e (heard_says plan.n plan.read c.heard h).0 t
-  work_fair Work.SecondWrite b e h t = taken_fair Told.Wrote b (e, (heard_says plan.n plan.write c.heard h).0)
-  work_fair Work.SecondRead b e h t = taken_fair Told.ReadBack b (e, (heard_says plan.n plan.write c.heard h).0)
+  work_fair Work.SecondWrite b e h t = taken_fair (Some Told.Wrote) b (e, (heard_says plan.n plan.write c.heard h).0)
+  work_fair Work.SecondRead b e h t = taken_fair (Some Told.ReadBack) b (e, (heard_says plan.n plan.write c.heard h).0)
 
 told_fair : (plan : Plan) (steps i : ℕ) (c : Client) (m : Message) → client_sound plan steps i c ≡ true → Tells steps m.part m.body
     → Fair plan steps c (told_of c m)
 unfolding told_of
 told_fair plan steps i c m sound t = go (awaits c m)
   where
-    go : (b : Bool) → Fair plan steps c (cond b (told_by c.work m.body) Told.Nothing)
+    go : (b : Bool) → Fair plan steps c (cond b (told_by c.work m.body) None)
     go true = work_fair plan steps m.part c c.work m.body refl (client_says plan steps i c sound).2 t
     go false = tt
 
@@ -157,17 +157,17 @@ module _ (plan : Plan) (steps j : ℕ) (c : Client) (m : Message) (q : Quorums p
   near w = with_within c.heard plan.n m.cabinet (address_says plan.n steps m address).2 w
 
   told_keeps : (d : Told) → Fair plan steps c d → Keeps plan (steps + 1) (hear_by d plan m.client j c next)
-  told_keeps Told.Nothing f = of_slot (empty_sound plan.n (steps + 1) j)
-  told_keeps (Told.OfWrite r e) f =
+  told_keeps None f = of_slot (empty_sound plan.n (steps + 1) j)
+  told_keeps (Some (Told.OfWrite r e)) f =
       first_write_keeps plan steps m.client j c q (address_says plan.n steps m address).1 sound next (near f.3) r _ f.0 f.2
       (best_sound steps (count_of next) c.best e (client_says plan steps m.client c sound).1 f.1)
-  told_keeps (Told.OfRead e) f =
+  told_keeps (Some (Told.OfRead e)) f =
       first_read_keeps plan steps m.client j c q (address_says plan.n steps m address).1 sound next (near f.2) _ f.0
       (best_sound steps (count_of next) c.best e (client_says plan steps m.client c sound).1 f.1)
-  told_keeps Told.Wrote f =
+  told_keeps (Some Told.Wrote) f =
       second_keeps plan steps m.client j c q (address_says plan.n steps m address).1 sound next (near f.1) Ending.Written
       (λ l. ap (λ (v : Work). work_sound plan next v) f.0 ∙ heard_made plan.n plan.write next (near f.1) l)
-  told_keeps Told.ReadBack f =
+  told_keeps (Some Told.ReadBack) f =
       second_keeps plan steps m.client j c q (address_says plan.n steps m address).1 sound next (near f.1) Ending.Read
       (λ l. ap (λ (v : Work). work_sound plan next v) f.0 ∙ heard_made plan.n plan.write next (near f.1) l)
 

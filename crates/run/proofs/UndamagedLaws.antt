@@ -58,18 +58,18 @@ module _ (run : Run) (sound : Sound run) where
 
   asked_keeps : (a : Asked) → Placed run.plan.n a → Keeps run.plan (run.steps + 1) (decide_of run a)
   unfolding decide_of
-  asked_keeps (Asked.Barred why) p = refused
-  asked_keeps (Asked.Begins i w) p =
+  asked_keeps (Err why) p = refused
+  asked_keeps (Ok (Asked.Begins i w)) p =
       begins_keeps run.plan run.steps i (client_at run i) (sound_plan run sound) (sound_client run sound i) w p.1
-  asked_keeps (Asked.Leaves i) p =
+  asked_keeps (Ok (Asked.Leaves i)) p =
       leaves_keeps run.plan run.steps i (client_at run i) (sound_plan run sound) (sound_client run sound i)
-  asked_keeps (Asked.Sends i k) p = sends_keeps run.plan run.steps i k (client_at run i) _ p.0 p.1 (sound_client run sound i)
-  asked_keeps (Asked.Delivers j) p =
+  asked_keeps (Ok (Asked.Sends i k)) p = sends_keeps run.plan run.steps i k (client_at run i) _ p.0 p.1 (sound_client run sound i)
+  asked_keeps (Ok (Asked.Delivers j)) p =
       delivers_keep j (slot_at run j).held (slot_says run.plan.n run.steps j (slot_at run j) (sound_slot run sound j))
-  asked_keeps (Asked.Loses j) p = loses_keeps run.plan (run.steps + 1) j (slot_at run j).held
-  asked_keeps (Asked.Stops k) p = stops_keep run.plan (run.steps + 1) k (cabinet_at run k).power p
-  asked_keeps (Asked.Restarts k) p = of_cabinet p tt
-  asked_keeps (Asked.RollsBack k j) p = rolls_keep run.plan (run.steps + 1) k j (sight_of (cabinet_at run k)) _ p.0
+  asked_keeps (Ok (Asked.Loses j)) p = loses_keeps run.plan (run.steps + 1) j (slot_at run j).held
+  asked_keeps (Ok (Asked.Stops k)) p = stops_keep run.plan (run.steps + 1) k (cabinet_at run k).power p
+  asked_keeps (Ok (Asked.Restarts k)) p = of_cabinet p tt
+  asked_keeps (Ok (Asked.RollsBack k j)) p = rolls_keep run.plan (run.steps + 1) k j (sight_of (cabinet_at run k)) _ p.0
 
 go_undamaged : (run : Run) (s : Step) → undamaged run ≡ true → undamaged (go_of run s).run ≡ true
 unfolding go_of decide_of
@@ -96,7 +96,7 @@ fresh_cabinet_sound plan i = go (ltb i plan.n) (stored_in plan i)
     go true false = record_made 0 false fresh_cabinet (kept_made false 1 (omega arith) (omega arith) refl) versions
     go false stored = fresh_made
 
-pub fresh_undamaged : (n k r b : ℕ) (p : Plan) → plan_of n k r b ≡ Planned.Accepted p → undamaged (fresh_run p) ≡ true
+pub fresh_undamaged : (n k r b : ℕ) (p : Plan) → plan_of n k r b ≡ Ok p → undamaged (fresh_run p) ≡ true
 unfolding fresh_run
 fresh_undamaged n k r b p e =
     undamaged_made (fresh_run p)
@@ -110,7 +110,7 @@ fresh_undamaged n k r b p e =
       cabinets = all_replicate (cabinet_sound p 0) 0 most_cabinets fresh_cabinet (λ i. fresh_cabinet_sound p i);
     })
 
-plain : plan_of 2 0 0 0 ≡ Planned.Accepted (forgetful_plan 2 0 0 0)
+plain : plan_of 2 0 0 0 ≡ Ok (forgetful_plan 2 0 0 0)
 unfolding plan_of in_range chosen
 plain = refl
 
@@ -121,18 +121,18 @@ module _ (n k r b : ℕ) where
   start_undamaged = go _ refl
     where
       go : (x : Planned) → plan_of n k r b ≡ x → undamaged (start_by x).run ≡ true
-      go Planned.OutOfRange e = fresh_undamaged 2 0 0 0 (forgetful_plan 2 0 0 0) plain
-      go Planned.TooSmall e = fresh_undamaged 2 0 0 0 (forgetful_plan 2 0 0 0) plain
-      go (Planned.Accepted p) e = fresh_undamaged n k r b p e
+      go (Err Unplanned.OutOfRange) e = fresh_undamaged 2 0 0 0 (forgetful_plan 2 0 0 0) plain
+      go (Err Unplanned.TooSmall) e = fresh_undamaged 2 0 0 0 (forgetful_plan 2 0 0 0) plain
+      go (Ok p) e = fresh_undamaged n k r b p e
 
   start_shaped : Shaped (start_of n k r b).run
   unfolding start_of
   start_shaped = go (plan_of n k r b)
     where
       go : (x : Planned) → Shaped (start_by x).run
-      go Planned.OutOfRange = fresh_shaped (forgetful_plan 2 0 0 0)
-      go Planned.TooSmall = fresh_shaped (forgetful_plan 2 0 0 0)
-      go (Planned.Accepted p) = fresh_shaped p
+      go (Err Unplanned.OutOfRange) = fresh_shaped (forgetful_plan 2 0 0 0)
+      go (Err Unplanned.TooSmall) = fresh_shaped (forgetful_plan 2 0 0 0)
+      go (Ok p) = fresh_shaped p
 
 -- ---- many steps
 

@@ -13,9 +13,9 @@ fresh_run p =
 
 -- S3.7: the fresh run of the plan, or of 2,0,0,0 beside a refusal
 abbrev pub start_by : Planned → Started
-start_by Planned.OutOfRange = record { planned = Planned.OutOfRange; run = fresh_run (forgetful_plan 2 0 0 0) }
-start_by Planned.TooSmall = record { planned = Planned.TooSmall; run = fresh_run (forgetful_plan 2 0 0 0) }
-start_by (Planned.Accepted p) = record { planned = Planned.Accepted p; run = fresh_run p }
+start_by (Err Unplanned.OutOfRange) = record { planned = (Err Unplanned.OutOfRange); run = fresh_run (forgetful_plan 2 0 0 0) }
+start_by (Err Unplanned.TooSmall) = record { planned = (Err Unplanned.TooSmall); run = fresh_run (forgetful_plan 2 0 0 0) }
+start_by (Ok p) = record { planned = Ok p; run = fresh_run p }
 
 -- S3.6, S3.7: a plan is answered
 unfoldable pub start_of : ℕ → ℕ → ℕ → ℕ → Started

@@ -42,15 +42,15 @@ delivers_in run j (Held.Reply m) = hears_of run.plan j (client_at run m.client) 
 
 -- S5.1: each kind of step over the parts that it meets
 unfoldable pub decide_of : Run → Asked → Decision
-decide_of run (Asked.Barred why) = Decision.No why
-decide_of run (Asked.Begins i w) = begins_of i (client_at run i) w
-decide_of run (Asked.Leaves i) = leaves_of i (client_at run i)
-decide_of run (Asked.Sends i p) = sends_of i p (client_at run i) (first_from 0 run.slots)
-decide_of run (Asked.Delivers j) = delivers_in run j (slot_at run j).held
-decide_of run (Asked.Loses j) = loses_by (slot_at run j).held j
-decide_of run (Asked.Stops p) = stops_when (cabinet_at run p).power p
-decide_of run (Asked.Restarts p) = Decision.Yes Outcome.Restarted (Change.OfCabinet p Deed.ComeUp)
-decide_of run (Asked.RollsBack p j) = rolls_of run.plan p j (sight_of (cabinet_at run p)) (others_from p 0 run.cabinets)
+decide_of run (Err why) = Decision.No why
+decide_of run (Ok (Asked.Begins i w)) = begins_of i (client_at run i) w
+decide_of run (Ok (Asked.Leaves i)) = leaves_of i (client_at run i)
+decide_of run (Ok (Asked.Sends i p)) = sends_of i p (client_at run i) (first_from 0 run.slots)
+decide_of run (Ok (Asked.Delivers j)) = delivers_in run j (slot_at run j).held
+decide_of run (Ok (Asked.Loses j)) = loses_by (slot_at run j).held j
+decide_of run (Ok (Asked.Stops p)) = stops_when (cabinet_at run p).power p
+decide_of run (Ok (Asked.Restarts p)) = Decision.Yes Outcome.Restarted (Change.OfCabinet p Deed.ComeUp)
+decide_of run (Ok (Asked.RollsBack p j)) = rolls_of run.plan p j (sight_of (cabinet_at run p)) (others_from p 0 run.cabinets)
 
 -- ---- put back
 
@@ -95,8 +95,8 @@ changed run x =
 
 -- S5.4: a refused step changes nothing
 abbrev pub put_back : Run → Decision → Stepped
-put_back run (Decision.No why) = record { answer = Answer.Refused why; run = run }
-put_back run (Decision.Yes o x) = record { answer = Answer.Accepted o; run = changed run x }
+put_back run (Decision.No why) = record { answer = Err why; run = run }
+put_back run (Decision.Yes o x) = record { answer = Ok o; run = changed run x }
 
 -- ---- the step
 
@@ -106,4 +106,4 @@ go_of run s = put_back run (decide_of run (admit_of run.plan.n run.steps s))
 
 -- S1.1: a step of the register; S5.5, S12.1, S13.1: the damage check comes first
 unfoldable pub step_of : Run → Step → Stepped
-step_of run s = cond (undamaged run) (go_of run s) (record { answer = Answer.Refused Refusal.Damaged; run = run })
+step_of run s = cond (undamaged run) (go_of run s) (record { answer = Err Refusal.Damaged; run = run })

@@ -41,8 +41,8 @@ module _ (after : Run) (own : List Cabinet) where
     outcome_same Outcome.RolledBack = refl
 
     answer_same : (a : Answer) → answer_event run s (with_cabinets after own) a ≡ answer_event (with_cabinets run l) s after a
-    answer_same (Answer.Refused why) = refl
-    answer_same (Answer.Accepted o) = outcome_same o
+    answer_same (Err why) = refl
+    answer_same (Ok o) = outcome_same o
 
 pub event_same : (run : Run) (table : List Cabinet) (s : Step) → length table ≡ run.plan.n
     → lent_event run table s ≡ event (with_records run table) s

@@ -59,9 +59,9 @@ module _ (n k r b : ℕ) where
   start_cabinets = go (plan_of n k r b)
     where
       go : (x : Planned) → (start_by x).run.cabinets ≡ replicate most_cabinets fresh_cabinet
-      go Planned.OutOfRange = refl
-      go Planned.TooSmall = refl
-      go (Planned.Accepted p) = refl
+      go (Err Unplanned.OutOfRange) = refl
+      go (Err Unplanned.TooSmall) = refl
+      go (Ok p) = refl
 
   start_behind : with_records (start_of n k r b).run (fresh_table (start_of n k r b).run) ≡ (start_of n k r b).run
   unfolding with_records with_cabinets

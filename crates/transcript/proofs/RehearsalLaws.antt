@@ -131,9 +131,9 @@ text_running p n run (b ∷ l) =
 
 after_none : (q : Planned) (run : Run) → after_plan q run [] ≡ []
 unfolding steps_text
-after_none Planned.OutOfRange run = refl
-after_none Planned.TooSmall run = refl
-after_none (Planned.Accepted p) run = refl
+after_none (Err Unplanned.OutOfRange) run = refl
+after_none (Err Unplanned.TooSmall) run = refl
+after_none (Ok p) run = refl
 
 plan_alone : (x : Row) → plan_say 1 x ≡ plan_row_text x []
 plan_alone Row.Other = refl
@@ -143,9 +143,9 @@ plan_alone (Row.Plan n k r b) =
 plan_alone (Row.Step s) = refl
 
 start_text : (q : Planned) (run : Run) (l : List ℕ) → text_from (mach (Line []) (start_phase q) 2 run) l ≡ after_plan q run (rows_from [] l)
-start_text Planned.OutOfRange run l = text_ended (Line []) 2 run l
-start_text Planned.TooSmall run l = text_ended (Line []) 2 run l
-start_text (Planned.Accepted p) run l = text_running [] 2 run l
+start_text (Err Unplanned.OutOfRange) run l = text_ended (Line []) 2 run l
+start_text (Err Unplanned.TooSmall) run l = text_ended (Line []) 2 run l
+start_text (Ok p) run l = text_running [] 2 run l
 
 plan_then : (x : Row) (run : Run) (l : List ℕ)
     → plan_say 1 x ++ text_from (mach (Line []) (plan_phase x) 2 (plan_run run x)) l ≡ plan_row_text x (rows_from [] l)

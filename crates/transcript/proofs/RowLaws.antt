@@ -94,14 +94,14 @@ module _ (l : List ℕ) (n : ℕ) (run : Run) (bare : breaks l ≡ 0) where
 
 -- ---- as a step
 
-no_kind_goes : (run : Run) → go_of run Step.Other ≡ record { answer = Answer.Refused Refusal.Range; run = run }
+no_kind_goes : (run : Run) → go_of run Step.Other ≡ record { answer = Err Refusal.Range; run = run }
 unfolding go_of decide_of admit_of in_range
 no_kind_goes run = refl
 
-no_kind : (run : Run) → undamaged run ≡ true → step_of run Step.Other ≡ record { answer = Answer.Refused Refusal.Range; run = run }
+no_kind : (run : Run) → undamaged run ≡ true → step_of run Step.Other ≡ record { answer = Err Refusal.Range; run = run }
 no_kind run h = step_is_go run Step.Other h ∙ no_kind_goes run
 
-refused_text : (n : ℕ) → refusal_text n ≡ step_text n (Answer.Refused Refusal.Range)
+refused_text : (n : ℕ) → refusal_text n ≡ step_text n (Err Refusal.Range)
 unfolding refusal_text step_text
 refused_text n = refl
 

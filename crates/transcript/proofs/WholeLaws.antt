@@ -18,9 +18,9 @@ use Rattle.text.proofs.BreakLaws.{breaks_more}
 -- ---- a row
 
 start_sound : (p : Planned) (run : Run) → undamaged run ≡ true → sound_in (start_phase p) run ≡ true
-start_sound Planned.OutOfRange run h = refl
-start_sound Planned.TooSmall run h = refl
-start_sound (Planned.Accepted p) run h = h
+start_sound (Err Unplanned.OutOfRange) run h = refl
+start_sound (Err Unplanned.TooSmall) run h = refl
+start_sound (Ok p) run h = h
 
 plan_sound : (x : Row) (run : Run) → sound_in (plan_phase x) (plan_run run x) ≡ true
 plan_sound Row.Other run = refl

@@ -49,9 +49,9 @@ head_in (Line l) = is_header l
 head_in Over = false
 
 abbrev pub start_phase : Planned → Phase
-start_phase Planned.OutOfRange = Phase.Ended
-start_phase Planned.TooSmall = Phase.Ended
-start_phase (Planned.Accepted p) = Phase.Running
+start_phase (Err Unplanned.OutOfRange) = Phase.Ended
+start_phase (Err Unplanned.TooSmall) = Phase.Ended
+start_phase (Ok p) = Phase.Running
 
 abbrev pub plan_phase : Row → Phase
 plan_phase Row.Other = Phase.Ended

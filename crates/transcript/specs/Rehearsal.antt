@@ -37,9 +37,9 @@ steps_text n run (l ∷ ls) = answer_text n run (row_of l) ++ steps_text (n + 1)
 
 -- S16.8: after a refused plan nothing follows
 abbrev pub after_plan : Planned → Run → List (List ℕ) → List ℕ
-after_plan Planned.OutOfRange run ls = []
-after_plan Planned.TooSmall run ls = []
-after_plan (Planned.Accepted p) run ls = steps_text 2 run ls
+after_plan (Err Unplanned.OutOfRange) run ls = []
+after_plan (Err Unplanned.TooSmall) run ls = []
+after_plan (Ok p) run ls = steps_text 2 run ls
 
 -- S16.8: the plan; a row of another form is answered 2, which is a refused plan
 abbrev pub plan_row_text : Row → List (List ℕ) → List ℕ

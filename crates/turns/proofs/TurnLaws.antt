@@ -30,7 +30,7 @@ set_self (x ∷ l) zero d = refl
 set_self (x ∷ l) (suc i) d = ap (λ (z : List Cabinet). x ∷ z) (set_self l i d)
 
 -- an offer that is not taken leaves its record, and all records, as they were
-module _ {run : Run} {s : Step} (h : Admitted run s) {j : ℕ} (e : h.asked ≡ Asked.Delivers j) {m : Message} (g : (get_or run.slots j empty_slot).held ≡ Held.Request m)
+module _ {run : Run} {s : Step} (h : Admitted run s) {j : ℕ} (e : h.asked ≡ (Ok (Asked.Delivers j))) {m : Message} (g : (get_or run.slots j empty_slot).held ≡ Held.Request m)
     {k : Sight} (seen : k ≡ sight_of (get_or run.cabinets m.cabinet no_cabinet)) {b : Back} (f : (j₁ : ℕ) → answers_of j₁ m k ≡ back_as j₁ m b) where
   pub request_keeps : {o : Entry} → b ≡ Back.Weighs o → {t : Slot} → t ≡ reply_slot m Body.Acknowledge → takes k.present o ≡ false
       → step_of run s ≡ stored run (Outcome.Answered (j + 1)) run.cabinets run.clients (set run.slots j t)

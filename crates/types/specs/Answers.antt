@@ -1,6 +1,6 @@
 -- The numbers that come back: clauses S12.0 to S12.11 of docs/SCOPE.md; S18.7: each case of an answer has its number.
 use Rattle.std.specs.Prelude.{ℕ}
-use Rattle.types.specs.Names.{Answer, Refusal}
+use Rattle.types.specs.Names.{Answer, Err, Ok, Refusal}
 
 -- S5.2, S18.7: the number of a refusal
 abbrev pub refusal_number : Refusal → ℕ
@@ -29,5 +29,5 @@ refusal_number Refusal.TooMany = 11
 
 -- S12.0: accepted is 0
 abbrev pub answer_number : Answer → ℕ
-answer_number (Answer.Accepted o) = 0
-answer_number (Answer.Refused w) = refusal_number w
+answer_number (Ok o) = 0
+answer_number (Err w) = refusal_number w

@@ -1,10 +1,13 @@
 // What a step is answered, and what it looks at of a cabinet.
+ghost use Rattle.std.specs.Prelude.{◌≡◌};
+ghost use Rattle.types.specs.Answers.{refusal_number, answer_number};
+
 use cabinet::{Entry, Power};
 
 // S12.1 to S12.11, in the order of the numbers.
-#[derive(Clone, Copy)]
+#[derive(Clone, Copy, PartialEq, Eq)]
 pub enum Refusal {
-    Damaged,
+    Damaged = 1,
     Range,
     Limit,
     HasLeft,
@@ -17,8 +20,17 @@ pub enum Refusal {
     TooMany,
 }
 
+// The number that comes back with a refusal.
+impl From<Refusal> for u8 {
+    ghost from_gives = { λ why n. n ≡ refusal_number why };
+
+    fn from(why: Refusal) -> u8 {
+        why as u8
+    }
+}
+
 // S8.5, S8.6, S8.7: how a part ended.
-#[derive(Clone, Copy)]
+#[derive(Clone, Copy, PartialEq, Eq)]
 pub enum Ending {
     Chosen,
     Found,
@@ -27,7 +39,7 @@ pub enum Ending {
 }
 
 // S5.2: what an accepted step came to. With the slot, counted from 1, of a send, a deliver or a lose, and the entry of a part that ended.
-#[derive(Clone, Copy)]
+#[derive(Clone, Copy, PartialEq, Eq)]
 pub enum Outcome {
     Begun,
     Sent(u8),
@@ -43,15 +55,21 @@ pub enum Outcome {
     RolledBack,
 }
 
-// S5.2: refused or accepted.
-#[derive(Clone, Copy)]
-pub enum Answer {
-    Refused(Refusal),
-    Accepted(Outcome),
+// S5.2: accepted or refused.
+pub type Answer = Result<Outcome, Refusal>;
+
+// The number that comes back with an answer.
+pub fn answer_number(answer: Answer) -> u8
+    ensures { result ≡ answer_number answer }
+{
+    match answer {
+        Ok(_) => 0,
+        Err(why) => u8::from(why),
+    }
 }
 
 // What a step looks at of a cabinet: all but its older versions.
-#[derive(Clone, Copy)]
+#[derive(Clone, Copy, PartialEq, Eq)]
 pub struct Sight {
     pub present: Entry,
     pub kept: u8,

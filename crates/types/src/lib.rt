@@ -4,11 +4,9 @@
 mod answer;
 mod client;
 mod message;
-mod number;
 mod step;
 
-pub use answer::{Answer, Ending, Outcome, Refusal, Sight};
+pub use answer::{Answer, Ending, Outcome, Refusal, Sight, answer_number};
 pub use client::{Client, Work};
 pub use message::{Body, Held, Message, Slot};
-pub use number::refusal_number;
 pub use step::{Asked, Step};

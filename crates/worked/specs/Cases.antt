@@ -35,12 +35,12 @@ having e = offered true e fresh_cabinet
 -- S3.9: the columns of its table: plan n,k,r,b, then the quorums
 abbrev pub forgetful_with : ℕ → ℕ → ℕ → ℕ → ℕ → ℕ → Planned
 forgetful_with n k r b write read =
-    Planned.Accepted (record { n = n; k = k; r = r; b = b; profile = Profile.Forgetful; write = write; read = read; stores = 0 })
+    Ok (record { n = n; k = k; r = r; b = b; profile = Profile.Forgetful; write = write; read = read; stores = 0 })
 
 -- S3.9: the same with the number of stores in front of the quorums
 abbrev pub store_with : ℕ → ℕ → ℕ → ℕ → ℕ → ℕ → ℕ → Planned
 store_with n k r b stores write read =
-    Planned.Accepted (record { n = n; k = k; r = r; b = b; profile = Profile.Store; write = write; read = read; stores = stores })
+    Ok (record { n = n; k = k; r = r; b = b; profile = Profile.Store; write = write; read = read; stores = stores })
 
 -- S18.5: P1 to P8 of S3.9, the three stamps of S2.2, an equal stamp (S7.5)
 abbrev pub rows : List Row
@@ -50,10 +50,10 @@ rows =
     ∷ (plans (plan_of 4 1 1 2) ↝ plans (store_with 4 1 1 2 4 3 3))
     ∷ (plans (plan_of 2 0 0 2) ↝ plans (store_with 2 0 0 2 1 2 2))
     ∷ (plans (plan_of 9 4 0 0) ↝ plans (forgetful_with 9 4 0 0 5 5))
-    ∷ (plans (plan_of 3 1 1 1) ↝ plans Planned.TooSmall)
-    ∷ (plans (plan_of 9 4 4 1) ↝ plans Planned.TooSmall)
-    ∷ (plans (plan_of 3 1 2 0) ↝ plans Planned.OutOfRange)
-    ∷ (plans (plan_of 10 1 0 0) ↝ plans Planned.OutOfRange)
+    ∷ (plans (plan_of 3 1 1 1) ↝ plans (Err Unplanned.TooSmall))
+    ∷ (plans (plan_of 9 4 4 1) ↝ plans (Err Unplanned.TooSmall))
+    ∷ (plans (plan_of 3 1 2 0) ↝ plans (Err Unplanned.OutOfRange))
+    ∷ (plans (plan_of 10 1 0 0) ↝ plans (Err Unplanned.OutOfRange))
     ∷ (greater (later_than (stamp 1 2) (stamp 1 1)) ↝ greater true)
     ∷ (greater (later_than (stamp 2 1) (stamp 1 2)) ↝ greater true)
     ∷ (greater (later_than (stamp 1 1) (stamp 1 2)) ↝ greater false)

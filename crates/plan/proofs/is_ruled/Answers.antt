@@ -1,20 +1,20 @@
 -- `is_ruled` meets its contract. Assumes nothing.
-use mathlib.Core.Path.{sym, ◌∙◌, ap}
-use Rattle.plan.specs.Rule.{gives, is_ruled}
-use Rattle.plan.specs.Names.{Planned}
+use Rattle.std.proofs.Common.{rules, ◌≡◌, sym, ◌∙◌, true}
+use Rattle.std.specs.Result.{result_eq}
+use Rattle.plan.specs.Names.{Err, Ok, Plan, Planned, Unplanned}
+use Rattle.plan.specs.contracts.PlanPartialEq.TheImpl.{eq-value as same-plan}
+use Rattle.plan.specs.contracts.UnplannedPartialEq.TheImpl.{eq-value as same-refusal}
+use Rattle.plan.proofs.RuledLaws.{ruled_if}
 use Rattle.plan.proofs.is_ruled.Goals as goal
 
-pub returns-in-OutOfRange : goal.returns-in-OutOfRange
-unfolding is_ruled
-returns-in-OutOfRange c = simp (sym c.choose.ensures ∙ c.in-OutOfRange.is)
+same_is : (x : Planned) (p : Plan) → result_eq same-plan.it same-refusal.it x (Ok p) ≡ true → x ≡ Ok p
+same_is x p h = search rules
 
-pub returns-in-TooSmall : goal.returns-in-TooSmall
-unfolding is_ruled
-returns-in-TooSmall c = simp (sym c.choose.ensures ∙ c.in-TooSmall.is)
+is_same : (x : Planned) (p : Plan) → x ≡ Ok p → result_eq same-plan.it same-refusal.it x (Ok p) ≡ true
+is_same x p h = rw h (search rules)
 
-pub returns-in-Accepted : goal.returns-in-Accepted
-unfolding is_ruled
-returns-in-Accepted c =
-    let args = c.args in
-    let choose = c.choose in
-    c.agrees.ensures ∙ ap (λ (x : Planned). gives x args.p) (sym c.in-Accepted.is ∙ choose.ensures)
+pub returns : goal.returns
+returns c =
+    ruled_if c.args.p c.eq.result
+    (λ h. sym c.choose.ensures ∙ same_is _ _ (sym c.eq.ensures ∙ h))
+    (λ h. c.eq.ensures ∙ is_same _ _ (c.choose.ensures ∙ h))
