@@ -8,7 +8,7 @@ use borrow.Author.Tests.{leb-true, leb-false}
 use Rattle.limits.specs.Limits.{most_clients, most_slots, most_steps, to_factory}
 use Rattle.plan.proofs.RuleLaws.{both}
 use Rattle.cabinet.specs.Entries.{reading_in}
-use Rattle.admit.specs.Names.{Asked, Refusal, Step, Work}
+use Rattle.admit.specs.Names.{Asked, Err, Ok, Refusal, Result, Step, Work}
 use Rattle.admit.specs.Admit.{one_to, in_range, placed, admit_of}
 
 -- ---- the tests
@@ -39,7 +39,7 @@ FirstIn Work.SecondWrite = ⊥
 FirstIn Work.SecondRead = ⊥
 
 -- clients below 8, cabinets below n, slots below 64, and 1 to 8 for a rollback
-abbrev pub Placed : ℕ → Asked → Type 0
+abbrev pub Placed : ℕ → Result Asked Refusal → Type 0
 Placed n (Err why) = Unit {0}
 Placed n (Ok (Asked.Begins i w)) = (i < most_clients) × FirstIn w
 Placed n (Ok (Asked.Sends i p)) = (i < most_clients) × (p < n)
@@ -64,7 +64,7 @@ range_placed n (Step.Restart k) e = let h = one_to_is n k e in omega arith
 range_placed n (Step.Rollback k j) e = let h = two k n j to_factory e in (omega arith, omega arith, omega arith)
 
 -- a step is barred, or it is in range and fewer than 1,000,000 steps were accepted before it
-pub admitted_by : (n steps : ℕ) (s : Step) (P : Asked → Type 0) → ((why : Refusal) → P (Err why))
+pub admitted_by : (n steps : ℕ) (s : Step) (P : Result Asked Refusal → Type 0) → ((why : Refusal) → P (Err why))
     → (in_range n s ≡ true → steps < most_steps → P (placed s)) → P (admit_of n steps s)
 unfolding admit_of
 admitted_by n steps s P f g = go (in_range n s) (leb most_steps steps) refl refl

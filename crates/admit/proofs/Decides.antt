@@ -2,10 +2,10 @@
 -- requires nothing. `Post` and `Pre` are the contract as the checker reads it in src/, so a weaker one is refused here, and one that asks for
 -- something. Assumes nothing.
 use mathlib.Core.Path.{◌≡◌, sym, ◌∙◌}
-use Rattle.admit.specs.Names.{Asked}
+use Rattle.admit.specs.Names.{Asked, Refusal, Result}
 use Rattle.admit.proofs.admission.admit.Reads as admit
 
-pub admit_decides : (κs : _) (a : _) (x y : Asked) (s s' : _) → admit.Post κs a x s → admit.Post κs a y s' → x ≡ y
+pub admit_decides : (κs : _) (a : _) (x y : Result Asked Refusal) (s s' : _) → admit.Post κs a x s → admit.Post κs a y s' → x ≡ y
 admit_decides κs a x y s s' p q = p ∙ sym q
 
 pub admit_any : (κs : _) (a : _) → admit.Pre κs a

@@ -2,7 +2,7 @@
 use Rattle.std.specs.Prelude.{ℕ, ◌-◌, Bool, false, cond, ◌&&◌, leb}
 use Rattle.limits.specs.Limits.{most_clients, most_slots, most_steps, to_factory}
 use Rattle.cabinet.specs.Entries.{reading_in}
-use Rattle.admit.specs.Names.{Asked, Refusal, Step, Work}
+use Rattle.admit.specs.Names.{Asked, Err, Ok, Refusal, Result, Step, Work}
 
 -- S12.2: from 1 to the most
 unfoldable pub one_to : ℕ → ℕ → Bool
@@ -22,7 +22,7 @@ in_range n (Step.Restart k) = one_to n k
 in_range n (Step.Rollback k j) = one_to n k && one_to to_factory j
 
 -- S5.1: what is asked for, with clients, cabinets and slots from 0
-unfoldable pub placed : Step → Asked
+unfoldable pub placed : Step → Result Asked Refusal
 placed Step.Other = Err Refusal.Range
 placed (Step.Write c r) = Ok (Asked.Begins (c - 1) (Work.FirstWrite r))
 placed (Step.Read c) = Ok (Asked.Begins (c - 1) Work.FirstRead)
@@ -35,5 +35,5 @@ placed (Step.Restart k) = Ok (Asked.Restarts (k - 1))
 placed (Step.Rollback k j) = Ok (Asked.RollsBack (k - 1) j)
 
 -- S5.5: first S12.2, then S12.3
-unfoldable pub admit_of : ℕ → ℕ → Step → Asked
+unfoldable pub admit_of : ℕ → ℕ → Step → Result Asked Refusal
 admit_of n steps s = cond (in_range n s) (cond (leb most_steps steps) (Err Refusal.Limit) (placed s)) (Err Refusal.Range)
