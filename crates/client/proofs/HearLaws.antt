@@ -1,11 +1,11 @@
--- Laws of the hearing of a reply: one for each way through, and what bounds the counters that a client hears. Assumes nothing.
+-- Laws of the hearing of a reply: which are awaited, which entry is the best, which reply ends its part, and what bounds the counters heard. Assumes nothing.
 use Prim.Native.Nat.{ℕ, ◌+◌, ◌≤◌, ◌<◌}
 use native.Mathlib.Omega.{arith}
 use mathlib.Core.Bool.{Bool, true, false, cond}
 use mathlib.Core.Path.{◌≡◌, refl, sym, ◌∙◌, ap}
 use lib.Dec.{eqb}
 use borrow.Author.Tests.{eq-eqb, ne_eqb, le-leb, lt-leb}
-use Rattle.client.specs.Names.{Body, Change, Client, Decision, Ending, Entry, Heard, Message, Outcome, Plan, Reading, Told, Work}
+use Rattle.client.specs.Names.{Body, Change, Client, Decision, Ending, Entry, Heard, Message, None, Option, Plan, Reading, Some, Told, Work}
 use Rattle.cabinet.specs.Entries.{factory_entry, takes}
 use Rattle.heard.specs.Heard.{none_heard, has_of, with_of, count_of}
 use Rattle.client.specs.Begin.{part_of}
@@ -28,7 +28,7 @@ module _ (c : Client) (m : Message) where
       unfolding told_of
       await_again h = simp (eq-eqb _ _ same, sym ep, eq-eqb _ _ now, sym eh ∙ h)
 
-      pub await_in : (t : Told) → has ≡ false → t ≡ told_by c.work m.body → t ≡ told_of c m
+      pub await_in : (t : Option Told) → has ≡ false → t ≡ told_by c.work m.body → t ≡ told_of c m
       unfolding told_of
       await_in t h et = et ∙ simp (eq-eqb _ _ same, sym ep, eq-eqb _ _ now, sym eh ∙ h)
 
@@ -65,7 +65,7 @@ module _ (n : ℕ) (best e : Entry) where
 
 -- ---- the counter that a reply tells
 
-abbrev heard_counter : Told → ℕ
+abbrev heard_counter : Option Told → ℕ
 heard_counter None = 0
 heard_counter (Some (Told.OfWrite r e)) = e.stamp.counter
 heard_counter (Some (Told.OfRead e)) = e.stamp.counter
@@ -88,7 +88,7 @@ entry_below (Body.TellStamp s) = omega arith
 entry_below (Body.TellEntry e) = omega arith
 entry_below Body.Acknowledge = omega arith
 
-taken_below : (t : Told) (b : Body) → heard_counter t ≡ 0 → heard_counter (told_taken t b) ≤ told_counter b
+taken_below : (t : Option Told) (b : Body) → heard_counter t ≡ 0 → heard_counter (told_taken t b) ≤ told_counter b
 taken_below t Body.AskStamp z = omega arith
 taken_below t Body.AskEntry z = omega arith
 taken_below t (Body.Offer e) z = omega arith
@@ -113,15 +113,11 @@ told_below c m = go (awaits c m)
     go false = omega arith
 
 -- what bounds the counter of a reply's body bounds the counter that is heard
-module _ (c : Client) (m : Message) (s : Told) (es : s ≡ told_of c m) (limit : ℕ) (h : told_counter m.body ≤ limit) where
+module _ (c : Client) (m : Message) (s : Option Told) (es : s ≡ told_of c m) (limit : ℕ) (h : told_counter m.body ≤ limit) where
   pub write_below : (r : Reading) (e : Entry) → s ≡ Some (Told.OfWrite r e) → e.stamp.counter ≤ limit
   write_below r e g = omega (arith, told_below c m, ap heard_counter (sym g ∙ es))
 
 -- ---- whether a reply ends its part
-
-pub end_is : (i j operation : ℕ) (how : Ending) (shown : Entry) (next : Work) (best : Entry) (h : Heard) → h ≡ none_heard
-    → Decision.Yes (Outcome.Ended how (j + 1) shown) (Change.Hearing i (record { operation = operation; work = next; heard = h; best = best }) j) ≡ ended i j operation how shown next best
-end_is i j operation how shown next best h e = rw e
 
 module _ (plan : Plan) (i j : ℕ) (c : Client) (heard : Heard) (n : ℕ) (en : n ≡ count_of heard) where
   module _ (r : Reading) (best : Entry) where
@@ -130,19 +126,11 @@ module _ (plan : Plan) (i j : ℕ) (c : Client) (heard : Heard) (n : ℕ) (en : 
     unfolding first_write
     write_chosen d ed h = ed ∙ simp (sym en, le-leb _ _ h)
 
-    pub write_counted : (d : Decision) → d ≡ counted i j c heard best → n < plan.read → d ≡ first_write plan i j c heard r best
-    unfolding first_write
-    write_counted d ed h = ed ∙ simp (sym en, lt-leb _ _ h)
-
   module _ (best : Entry) where
     pub read_found : (d : Decision) → d ≡ ended i j c.operation Ending.Found best Work.SecondRead best → plan.read ≤ n
         → d ≡ first_read plan i j c heard best
     unfolding first_read
     read_found d ed h = ed ∙ simp (sym en, le-leb _ _ h)
-
-    pub read_counted : (d : Decision) → d ≡ counted i j c heard best → n < plan.read → d ≡ first_read plan i j c heard best
-    unfolding first_read
-    read_counted d ed h = ed ∙ simp (sym en, lt-leb _ _ h)
 
   module _ (how : Ending) where
     pub second_done : (d : Decision) → d ≡ ended i j c.operation how c.best Work.Idle factory_entry → plan.write ≤ n
@@ -150,36 +138,12 @@ module _ (plan : Plan) (i j : ℕ) (c : Client) (heard : Heard) (n : ℕ) (en : 
     unfolding second
     second_done d ed h = ed ∙ simp (sym en, le-leb _ _ h)
 
-    pub second_counted : (d : Decision) → d ≡ counted i j c heard c.best → n < plan.write → d ≡ second plan i j c heard how
-    unfolding second
-    second_counted d ed h = ed ∙ simp (sym en, lt-leb _ _ h)
-
 -- ---- a reply heard
 
 -- `heard` is the set with the reply's cabinet, `s` what the reply says
-module _ (plan : Plan) (j : ℕ) (c : Client) (m : Message) (heard : Heard) (s : Told) (eh : heard ≡ with_of c.heard m.cabinet) (es : s ≡ told_of c m) where
-  hear_at : (t : Told) → s ≡ t → hear_by t plan m.client j c heard ≡ hears_of plan j c m
+module _ (plan : Plan) (j : ℕ) (c : Client) (m : Message) (heard : Heard) (s : Option Told) (eh : heard ≡ with_of c.heard m.cabinet) (es : s ≡ told_of c m) where
+  hear_at : (t : Option Told) → s ≡ t → hear_by t plan m.client j c heard ≡ hears_of plan j c m
   unfolding hears_of
   hear_at t g =
       ap (λ (h : Heard). hear_by t plan m.client j c h) eh
-      ∙ ap (λ (t : Told). hear_by t plan m.client j c (with_of c.heard m.cabinet)) (sym g ∙ es)
-
-  pub hear_nothing : (d : Decision) → d ≡ discarded j → s ≡ None → d ≡ hears_of plan j c m
-  hear_nothing d ed g = ed ∙ hear_at None g
-
-  module _ (n : ℕ) (en : n ≡ count_of heard) (e best : Entry) (eb : best ≡ best_of n c.best e) where
-    heard_best : best ≡ best_of (count_of heard) c.best e
-    heard_best = eb ∙ ap (λ (n : ℕ). best_of n c.best e) en
-
-    pub hear_write : (r : Reading) (d : Decision) → d ≡ first_write plan m.client j c heard r best → s ≡ Some (Told.OfWrite r e)
-        → d ≡ hears_of plan j c m
-    hear_write r d ed g = ed ∙ ap (first_write plan m.client j c heard r) heard_best ∙ hear_at (Some (Told.OfWrite r e)) g
-
-    pub hear_read : (d : Decision) → d ≡ first_read plan m.client j c heard best → s ≡ Some (Told.OfRead e) → d ≡ hears_of plan j c m
-    hear_read d ed g = ed ∙ ap (first_read plan m.client j c heard) heard_best ∙ hear_at (Some (Told.OfRead e)) g
-
-  pub hear_wrote : (d : Decision) → d ≡ second plan m.client j c heard Ending.Written → s ≡ Some Told.Wrote → d ≡ hears_of plan j c m
-  hear_wrote d ed g = ed ∙ hear_at (Some Told.Wrote) g
-
-  pub hear_read_back : (d : Decision) → d ≡ second plan m.client j c heard Ending.Read → s ≡ Some Told.ReadBack → d ≡ hears_of plan j c m
-  hear_read_back d ed g = ed ∙ hear_at (Some Told.ReadBack) g
+      ∙ ap (λ (t : Option Told). hear_by t plan m.client j c (with_of c.heard m.cabinet)) (sym g ∙ es)

@@ -1,13 +1,13 @@
 -- A reply reaches its client: clauses S8.1 to S8.8 of docs/SCOPE.md.
 use Rattle.std.specs.Prelude.{ℕ, ◌+◌, Bool, cond, not, ◌&&◌, eqb, leb}
-use Rattle.client.specs.Names.{Body, Change, Client, Decision, Ending, Entry, Heard, Message, Outcome, Plan, Reading, Told, Work}
+use Rattle.client.specs.Names.{Body, Change, Client, Decision, Ending, Entry, Heard, Message, None, Option, Outcome, Plan, Reading, Some, Told, Work}
 use Rattle.cabinet.specs.Entries.{factory_entry, takes}
 use Rattle.heard.specs.Heard.{none_heard, has_of, with_of, count_of}
 use Rattle.types.specs.Parts.{empty_slot}
 use Rattle.client.specs.Begin.{part_of}
 
 -- S8.2: what a body says to a write's first part: a stamp, or nothing
-abbrev pub told_stamp : Reading → Body → Told
+abbrev pub told_stamp : Reading → Body → Option Told
 told_stamp r Body.AskStamp = None
 told_stamp r Body.AskEntry = None
 told_stamp r (Body.Offer e) = None
@@ -16,7 +16,7 @@ told_stamp r (Body.TellEntry e) = None
 told_stamp r Body.Acknowledge = None
 
 -- S8.2: to a read's first part: an entry, or nothing
-abbrev pub told_entry : Body → Told
+abbrev pub told_entry : Body → Option Told
 told_entry Body.AskStamp = None
 told_entry Body.AskEntry = None
 told_entry (Body.Offer e) = None
@@ -25,7 +25,7 @@ told_entry (Body.TellEntry e) = Some (Told.OfRead e)
 told_entry Body.Acknowledge = None
 
 -- S8.2: to a second part: an acknowledgement, or nothing
-abbrev pub told_taken : Told → Body → Told
+abbrev pub told_taken : Option Told → Body → Option Told
 told_taken t Body.AskStamp = None
 told_taken t Body.AskEntry = None
 told_taken t (Body.Offer e) = None
@@ -34,7 +34,7 @@ told_taken t (Body.TellEntry e) = None
 told_taken t Body.Acknowledge = t
 
 -- S8.2: to the part that is open; to a client that is idle or gone, nothing
-abbrev pub told_by : Work → Body → Told
+abbrev pub told_by : Work → Body → Option Told
 told_by Work.Idle b = None
 told_by Work.Gone b = None
 told_by (Work.FirstWrite r) b = told_stamp r b
@@ -47,7 +47,7 @@ abbrev pub awaits : Client → Message → Bool
 awaits c m = eqb c.operation m.operation && (eqb (part_of c.work) m.part && not (has_of c.heard m.cabinet))
 
 -- S8.2: what a reply says, or nothing where it is not awaited; S8.8: its cabinet is not looked at
-unfoldable pub told_of : Client → Message → Told
+unfoldable pub told_of : Client → Message → Option Told
 told_of c m = cond (awaits c m) (told_by c.work m.body) None
 
 -- S8.6: the greatest heard, the first of equal ones; the very first is taken whatever its stamp
@@ -89,7 +89,7 @@ second plan i j c heard how =
     cond (leb plan.write (count_of heard)) (ended i j c.operation how c.best Work.Idle factory_entry) (counted i j c heard c.best)
 
 -- S8.2, S8.3: by what the reply says
-abbrev pub hear_by : Told → Plan → ℕ → ℕ → Client → Heard → Decision
+abbrev pub hear_by : Option Told → Plan → ℕ → ℕ → Client → Heard → Decision
 hear_by None plan i j c heard = discarded j
 hear_by (Some (Told.OfWrite r e)) plan i j c heard = first_write plan i j c heard r (best_of (count_of heard) c.best e)
 hear_by (Some (Told.OfRead e)) plan i j c heard = first_read plan i j c heard (best_of (count_of heard) c.best e)

@@ -1,4 +1,5 @@
 -- The types that this crate speaks of, under one roof.
+pub use Rattle.std.specs.Prelude.{Result, Ok, Err, Option, Some, None}
 pub use Rattle.plan.specs.declared.Plan.{Plan}
 pub use Rattle.cabinet.specs.declared.entry.Reading.{Reading}
 pub use Rattle.cabinet.specs.declared.entry.Entry.{Entry}
@@ -14,7 +15,5 @@ pub use Rattle.types.specs.declared.message.Held.{Held}
 pub use Rattle.types.specs.declared.message.Slot.{Slot}
 pub use Rattle.types.specs.Decisions.{Change, Decision}
 pub use Rattle.client.specs.declared.begin.Standing.{Standing}
-pub use Rattle.client.specs.declared.begin.Moved.{Moved}
-pub use Rattle.client.specs.declared.begin.Asking.{Asking}
 pub use Rattle.client.specs.declared.hear.Told.{Told}
 pub use Rattle.client.specs.declared.hear.Hears.{Hears}

@@ -2,7 +2,7 @@
 ghost use Rattle.std.specs.Prelude.{◌≡◌, ℕ, ◌≤◌};
 ghost use Rattle.limits.specs.Limits.{most_steps};
 ghost use Rattle.types.specs.declared.answer.Outcome.{Outcome};
-ghost use Rattle.client.specs.Begin.{standing_of, part_of, begins_of, request_body, request_slot, sends_of, gone as Begin·gone, leaves_of};
+ghost use Rattle.client.specs.Begin.{standing_of, part_of, begins_of, request_body, request_slot, sends_of, leaves_of};
 ghost use Rattle.client.specs.Small.{moved_as, asking_as};
 
 use cabinet::Entry;
@@ -10,7 +10,7 @@ use heard::Heard;
 use types::{Body, Client, Held, Message, Refusal, Slot, Work};
 
 // What the checks 4, 5 and 6 ask of a client.
-#[derive(Clone, Copy)]
+#[derive(Clone, Copy, PartialEq, Eq)]
 pub enum Standing {
     Free,
     Away,
@@ -23,10 +23,8 @@ fn stands(w: Work) -> Standing
     match w {
         Work::Idle => Standing::Free,
         Work::Gone => Standing::Away,
-        Work::FirstWrite(_) => Standing::Busy,
-        Work::FirstRead => Standing::Busy,
-        Work::SecondWrite => Standing::Busy,
-        Work::SecondRead => Standing::Busy,
+        Work::FirstWrite(_) | Work::FirstRead | Work::SecondWrite | Work::SecondRead =>
+            Standing::Busy,
     }
 }
 
@@ -34,104 +32,79 @@ pub fn part(w: Work) -> u8
     ensures { result ≡ part_of w }
 {
     match w {
-        Work::Idle => 0,
-        Work::Gone => 0,
-        Work::FirstWrite(_) => 1,
-        Work::FirstRead => 1,
-        Work::SecondWrite => 2,
-        Work::SecondRead => 2,
+        Work::Idle | Work::Gone => 0,
+        Work::FirstWrite(_) | Work::FirstRead => 1,
+        Work::SecondWrite | Work::SecondRead => 2,
     }
 }
 
-// A client's own step without the place that it changes: a refusal, or the client as it is afterwards.
-#[derive(Clone, Copy)]
-pub enum Moved {
-    Not(Refusal),
-    To(Client),
-}
-
-// A send without the slot that it takes: a refusal, or what that slot then has.
-#[derive(Clone, Copy)]
-pub enum Asking {
-    Not(Refusal),
-    Puts(Slot),
-}
-
-pub fn opens(c: Client, w: Work) -> Moved
-    requires { c.operation ≤ most_steps }
-    ensures { (i : ℕ) → begins_of i c w ≡ moved_as Outcome.Begun i result }
+// The client as it is afterwards.
+#[tactic(auto, unfolding(crate::specs::Begin::begins_of))]
+pub fn opens(c: &Client, w: Work) -> Result<Client, Refusal>
+    requires { c.now.operation ≤ most_steps }
+    ensures { (i : ℕ) → begins_of i c.now w ≡ moved_as Outcome.Begun i result }
 {
-    let now = c.work;
-    match stands(now) {
-        Standing::Free => Moved::To(Client {
+    match stands(c.work) {
+        Standing::Free => Ok(Client {
             operation: c.operation + 1,
             work: w,
             heard: Heard::none(),
             best: Entry::FACTORY,
         }),
-        Standing::Away => Moved::Not(Refusal::HasLeft),
-        Standing::Busy => Moved::Not(Refusal::NotIdle),
+        Standing::Away => Err(Refusal::HasLeft),
+        Standing::Busy => Err(Refusal::NotIdle),
     }
 }
 
+// No other than the four that are busy is asked.
 fn request_body(w: Work, best: Entry) -> Body
     ensures { result ≡ request_body w best }
 {
     match w {
-        Work::Idle => Body::Acknowledge,
-        Work::Gone => Body::Acknowledge,
+        Work::Idle | Work::Gone => Body::Acknowledge,
         Work::FirstWrite(_) => Body::AskStamp,
         Work::FirstRead => Body::AskEntry,
-        Work::SecondWrite => Body::Offer(best),
-        Work::SecondRead => Body::Offer(best),
+        Work::SecondWrite | Work::SecondRead => Body::Offer(best),
     }
 }
 
-fn request(i: u8, k: u8, c: Client) -> Slot
-    ensures { result ≡ request_slot i k c }
+fn request(i: u8, k: u8, c: &Client) -> Slot
+    ensures { result ≡ request_slot i k c.now }
 {
-    let w = c.work;
-    let best = c.best;
     Slot {
         held: Held::Request(Message {
             operation: c.operation,
             client: i,
-            part: part(w),
+            part: part(c.work),
             cabinet: k,
-            body: request_body(w, best),
+            body: request_body(c.work, c.best),
         }),
     }
 }
 
-pub fn asks(i: u8, k: u8, c: Client) -> Asking
-    ensures { (free : ℕ) → sends_of i k c free ≡ asking_as free result }
+// What the lowest free slot then has. Whether one is free only the owner of the run knows.
+#[tactic(auto, unfolding(crate::specs::Begin::sends_of))]
+pub fn asks(i: u8, k: u8, c: &Client) -> Result<Slot, Refusal>
+    ensures { (free : ℕ) → sends_of i k c.now free ≡ asking_as free result }
 {
-    let now = c.work;
-    match stands(now) {
-        Standing::Free => Asking::Not(Refusal::IsIdle),
-        Standing::Away => Asking::Not(Refusal::HasLeft),
-        Standing::Busy => Asking::Puts(request(i, k, c)),
+    match stands(c.work) {
+        Standing::Free => Err(Refusal::IsIdle),
+        Standing::Away => Err(Refusal::HasLeft),
+        Standing::Busy => Ok(request(i, k, c)),
     }
 }
 
-fn gone(c: Client) -> Client
-    ensures { result ≡ Begin·gone c }
+#[tactic(auto, unfolding(crate::specs::Begin::leaves_of))]
+pub fn quits(c: &Client) -> Result<Client, Refusal>
+    ensures { (i : ℕ) → leaves_of i c.now ≡ moved_as Outcome.Left i result }
 {
-    Client {
-        operation: c.operation,
-        work: Work::Gone,
-        heard: Heard::none(),
-        best: Entry::FACTORY,
-    }
-}
-
-pub fn quits(c: Client) -> Moved
-    ensures { (i : ℕ) → leaves_of i c ≡ moved_as Outcome.Left i result }
-{
-    let now = c.work;
-    match stands(now) {
-        Standing::Free => Moved::To(gone(c)),
-        Standing::Away => Moved::Not(Refusal::HasLeft),
-        Standing::Busy => Moved::To(gone(c)),
+    match stands(c.work) {
+        Standing::Free | Standing::Busy => Ok(Client {
+            work: Work::Gone,
+            heard: Heard::none(),
+            best: Entry::FACTORY,
+            ..*c
+        }),
+        Standing::Away => Err(Refusal::HasLeft),
     }
 }
