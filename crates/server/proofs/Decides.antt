@@ -31,7 +31,7 @@ back_same j m (Back.Weighs f) (Back.Says c) e = cc
 back_same j m (Back.Weighs f) (Back.Weighs g) e = cc
 
 pub answer_decides : (κs : _) (a : _) (x y : Back) (s s' : _) → answer.Post κs a x s → answer.Post κs a y s' → x ≡ y
-answer_decides κs a x y s s' p q = back_same 0 a.0 x y (sym (p 0) ∙ q 0)
+answer_decides κs a x y s s' p q = back_same 0 a.0.now x y (sym (p 0) ∙ q 0)
 
 pub answer_any : (κs : _) (a : _) → answer.Pre κs a
 answer_any κs a = tt

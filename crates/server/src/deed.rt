@@ -9,27 +9,17 @@ use plan::Profile;
 pub fn is_down(p: Power) -> bool
     ensures { result ≡ is_down p }
 {
-    match p {
-        Power::Down => true,
-        Power::Up => false,
-        Power::Stale => false,
-    }
+    p == Power::Down
 }
 
 pub fn may_roll(marked: bool, others: u8, r: u8) -> bool
     ensures { result ≡ (marked || ltb others r) }
 {
-    if marked {
-        return true;
-    }
-    others < r
+    marked || others < r
 }
 
 pub fn forgets(p: Profile) -> bool
     ensures { result ≡ is_forgetful p }
 {
-    match p {
-        Profile::Forgetful => true,
-        Profile::Store => false,
-    }
+    matches!(p, Profile::Forgetful)
 }

@@ -1,6 +1,6 @@
 // A request reaches its cabinet.
 ghost use Rattle.std.specs.Prelude.{◌≡◌, ℕ};
-ghost use Rattle.server.specs.Requests.{reply_slot, answers_by, answers_of, back_as};
+ghost use Rattle.server.specs.Requests.{reply_slot, answers_of, back_as};
 
 use cabinet::{Entry, Power};
 use types::{Body, Held, Message, Sight, Slot};
@@ -14,56 +14,23 @@ pub enum Back {
 }
 
 // The reply to m with this body.
-pub fn reply(m: Message, b: Body) -> Slot
-    ensures { result ≡ reply_slot m b }
+pub fn reply(m: &Message, b: Body) -> Slot
+    ensures { result ≡ reply_slot m.now b }
 {
     Slot {
-        held: Held::Reply(Message {
-            operation: m.operation,
-            client: m.client,
-            part: m.part,
-            cabinet: m.cabinet,
-            body: b,
-        }),
+        held: Held::Reply(Message { body: b, ..*m }),
     }
 }
 
-fn answer_by(stale: bool, m: Message, k: Sight) -> Back
-    ensures { (j : ℕ) → answers_by m.body stale j m k ≡ back_as j m result }
+// The request m reaches its cabinet, of which k is seen: one that is down says nothing, and one that is stale tells nothing of what it holds.
+#[tactic(auto, unfolding(crate::specs::Requests::answers_of))]
+pub fn answer(m: &Message, k: &Sight) -> Back
+    ensures { (j : ℕ) → answers_of j m.now k.now ≡ back_as j m.now result }
 {
-    let b = m.body;
-    let e = k.present;
-    match b {
-        Body::AskStamp => {
-            if stale {
-                Back::Silent
-            } else {
-                let s = e.stamp;
-                Back::Says(Body::TellStamp(s))
-            }
-        }
-        Body::AskEntry => {
-            if stale {
-                Back::Silent
-            } else {
-                Back::Says(Body::TellEntry(e))
-            }
-        }
-        Body::Offer(o) => Back::Weighs(o),
-        Body::TellStamp(_) => Back::Silent,
-        Body::TellEntry(_) => Back::Silent,
-        Body::Acknowledge => Back::Silent,
-    }
-}
-
-// The request m reaches its cabinet, of which k is seen.
-pub fn answer(m: Message, k: Sight) -> Back
-    ensures { (j : ℕ) → answers_of j m k ≡ back_as j m result }
-{
-    let p = k.power;
-    match p {
-        Power::Down => Back::Silent,
-        Power::Up => answer_by(false, m, k),
-        Power::Stale => answer_by(true, m, k),
+    match (k.power, &m.body) {
+        (Power::Up, Body::AskStamp) => Back::Says(Body::TellStamp(k.present.stamp)),
+        (Power::Up, Body::AskEntry) => Back::Says(Body::TellEntry(k.present)),
+        (Power::Up | Power::Stale, Body::Offer(e)) => Back::Weighs(*e),
+        _ => Back::Silent,
     }
 }

@@ -1,22 +1,17 @@
--- `count` meets its contract. The loop's invariant: n is how many of the first i places hold 1. Assumes nothing.
-use mathlib.Core.Path.{◌≡◌}
-use native.Mathlib.Omega.{arith}
-use Rattle.limits.specs.Limits.{most_cabinets}
-use Rattle.heard.proofs.TableLaws.{ones_none, ones_fit, ones_next, ones_all}
+-- `count` meets its contract: each place holds 1 or 0, so that their sum is the number of the cabinets heard. Assumes nothing.
+use Prim.Native.Nat.{◌<◌}
+use mathlib.Core.Path.{◌≡◌, ◌∙◌}
+use borrow.Author.Rules.{rules}
+use Rattle.std.specs.Prelude.{sum}
+use Rattle.heard.proofs.TableLaws.{sum_is, sum_fits}
 use Rattle.heard.proofs.Heard.count.Goals as goal
 
-pub loop-i-init : goal.loop-i-init
-loop-i-init c = (omega arith, ones_none c.places-places.result)
-
-pub overflow_add-n : goal.overflow_add-n
-overflow_add-n c =
-    omega (arith, ones_fit _ _ c.places-places.ensures _ _ c.loop-i.invariant.1 c.loop-i-test.true)
-
-pub loop-i-preserved : goal.loop-i-preserved
-loop-i-preserved c =
-    (omega arith, ones_next _ _ c.places-places.ensures _ _ c.loop-i.invariant.1 c.loop-i-test.true)
+pub sum-requires-clause-fits : goal.sum-requires-clause-fits
+sum-requires-clause-fits c =
+    let fits : sum c.places.result < 256 = sum_fits c.args.self c.places.result c.places.ensures in
+    search rules
 
 pub returns : goal.returns
 returns c =
-    let all : c.loop-i.i ≡ most_cabinets = omega arith in
-    ones_all _ _ c.places-places.ensures _ _ c.loop-i.invariant.1 all
+    let total : c.sum.result ≡ sum c.places.result = search rules in
+    total ∙ sum_is c.args.self c.places.result c.places.ensures

@@ -7,5 +7,5 @@ use Rattle.heard.proofs.Heard.with.Goals as goal
 pub returns-then-cabinet-lt-MOST_CABINETS : goal.returns-then-cabinet-lt-MOST_CABINETS
 returns-then-cabinet-lt-MOST_CABINETS c = bit_set _ _ c.if-cabinet-lt-MOST_CABINETS.true
 
-pub returns : goal.returns
-returns c = sym (with_past _ _ c.if-cabinet-lt-MOST_CABINETS.false)
+pub returns-else-cabinet-lt-MOST_CABINETS : goal.returns-else-cabinet-lt-MOST_CABINETS
+returns-else-cabinet-lt-MOST_CABINETS c = sym (with_past _ _ c.if-cabinet-lt-MOST_CABINETS.false)
