@@ -5,33 +5,24 @@ ghost use Rattle.run.specs.Undamaged.{rest_sound, undamaged};
 use super::Run;
 use guard::{cabinets_sound, clients_sound, slots_sound};
 use limits::MOST_STEPS;
+use plan::is_ruled;
 
-// All but the cabinets, whose records a desk may lend.
-pub fn rest_sound(run: Run) -> bool
-    ensures { result ≡ rest_sound run }
-{
-    let plan = run.plan;
-    let clients = run.clients;
-    let slots = run.slots;
-    if plan::is_ruled(plan) {
-        if run.steps <= MOST_STEPS {
-            if clients_sound(plan, run.steps, clients) {
-                return slots_sound(plan.n, run.steps, slots);
-            }
-            return false;
-        }
-        return false;
+impl Run {
+    // All but the cabinets, whose records a desk may lend.
+    #[tactic(auto, unfolding(crate::specs::Undamaged::rest_sound))]
+    fn rest_sound(&self) -> bool
+        ensures { result ≡ rest_sound self.now }
+    {
+        is_ruled(self.plan)
+            && self.steps <= MOST_STEPS
+            && clients_sound(self.plan, self.steps, &self.clients)
+            && slots_sound(self.plan.n, self.steps, &self.slots)
     }
-    false
-}
 
-pub fn undamaged(run: Run) -> bool
-    ensures { result ≡ undamaged run }
-{
-    let plan = run.plan;
-    let cabinets = run.cabinets;
-    if rest_sound(run) {
-        return cabinets_sound(plan, run.steps, cabinets);
+    #[tactic(auto, unfolding(crate::specs::Undamaged::undamaged))]
+    pub fn undamaged(&self) -> bool
+        ensures { result ≡ undamaged self.now }
+    {
+        self.rest_sound() && cabinets_sound(self.plan, self.steps, &self.cabinets)
     }
-    false
 }

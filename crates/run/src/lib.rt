@@ -7,33 +7,17 @@ mod guarded;
 mod steps;
 
 use cabinet::Cabinet;
-pub use fresh::start;
-pub use gather::{is_empty, others_marked, sight};
-pub use guarded::undamaged;
+pub use fresh::{Started, start};
 use limits::{MOST_CABINETS, MOST_CLIENTS, MOST_SLOTS};
-use plan::{Plan, Planned};
-pub use steps::{go, take};
-use types::{Answer, Client, Slot};
+use plan::Plan;
+use types::{Client, Slot};
 
 // S4.1, S20.1: clients, cabinets and slots count from 0 here; places past n hold fresh cabinets.
-#[derive(Clone, Copy)]
+#[derive(Clone, Copy, PartialEq, Eq)]
 pub struct Run {
     pub plan: Plan,
     pub steps: u32,
     pub cabinets: [Cabinet; MOST_CABINETS],
     pub clients: [Client; MOST_CLIENTS],
     pub slots: [Slot; MOST_SLOTS],
-}
-
-// A run holds arrays, so what comes back with it stands beside it.
-#[derive(Clone, Copy)]
-pub struct Started {
-    pub planned: Planned,
-    pub run: Run,
-}
-
-#[derive(Clone, Copy)]
-pub struct Stepped {
-    pub answer: Answer,
-    pub run: Run,
 }
