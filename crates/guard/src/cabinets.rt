@@ -1,129 +1,73 @@
 // Cabinets that an undamaged run may hold.
 ghost use Rattle.std.specs.Prelude.{◌≡◌};
 ghost use Rattle.guard.specs.All.{all_from};
-ghost use Rattle.guard.specs.Damage.{version_sound, kept_sound, record_sound, is_up, factory_at, is_fresh, cabinet_sound};
+ghost use Rattle.guard.specs.Damage.{version_sound, kept_sound, record_sound, factory_at, is_fresh, cabinet_sound};
 
 use super::entries;
 use cabinet::{Cabinet, Entry, Power};
 use limits::{MOST_CABINETS, MOST_VERSIONS, byte};
 use plan::Plan;
 
+#[tactic(auto, unfolding(crate::specs::Damage::version_sound))]
 fn version_sound(steps: u32, kept: u8, i: usize, e: Entry) -> bool
     ensures { result ≡ version_sound steps kept i e }
 {
-    if entries::entry_sound(steps, e) {
-        if i < kept as usize {
-            return true;
-        }
-        return e.is_factory();
-    }
-    false
+    entries::entry_sound(steps, e) && (i < kept as usize || e.is_factory())
 }
 
-fn versions_sound(steps: u32, kept: u8, versions: [Entry; MOST_VERSIONS]) -> bool
-    ensures { result ≡ all_from (version_sound steps kept) 0 versions }
+fn versions_sound(steps: u32, kept: u8, versions: &[Entry; MOST_VERSIONS]) -> bool
+    ensures { result ≡ all_from (version_sound steps kept) 0 versions.now }
 {
-    let mut i: usize = 0;
-    while i < MOST_VERSIONS {
-        let e = versions[i];
-        if version_sound(steps, kept, i, e) {
-            i += 1;
-        } else {
-            return false;
-        }
-    }
-    true
+    versions
+        .iter()
+        .enumerate()
+        .all(|(i, e)| version_sound(steps, kept, i, *e))
 }
 
+#[tactic(auto, unfolding(crate::specs::Damage::kept_sound))]
 fn kept_sound(stored: bool, kept: u8) -> bool
     ensures { result ≡ kept_sound stored kept }
 {
-    if kept < 1 {
-        return false;
-    }
-    if byte::MOST_VERSIONS < kept {
-        return false;
-    }
-    if stored {
-        return true;
-    }
-    kept == 1
+    1 <= kept && kept <= byte::MOST_VERSIONS && (stored || kept == 1)
 }
 
 // A record of one of the line's n cabinets.
-pub fn record_sound(steps: u32, stored: bool, k: Cabinet) -> bool
-    ensures { result ≡ record_sound steps stored k }
+#[tactic(auto, unfolding(crate::specs::Damage::record_sound))]
+pub fn record_sound(steps: u32, stored: bool, k: &Cabinet) -> bool
+    ensures { result ≡ record_sound steps stored k.now }
 {
-    let versions = k.versions;
-    let kept = k.kept;
-    if kept_sound(stored, kept) {
-        return versions_sound(steps, kept, versions);
-    }
-    false
+    kept_sound(stored, k.kept) && versions_sound(steps, k.kept, &k.versions)
 }
 
-fn all_factory(versions: [Entry; MOST_VERSIONS]) -> bool
-    ensures { result ≡ all_from factory_at 0 versions }
+fn all_factory(versions: &[Entry; MOST_VERSIONS]) -> bool
+    ensures { result ≡ all_from factory_at 0 versions.now }
 {
-    let mut i: usize = 0;
-    while i < MOST_VERSIONS {
-        let e = versions[i];
-        if e.is_factory() {
-            i += 1;
-        } else {
-            return false;
-        }
-    }
-    true
+    versions.iter().all(|e| e.is_factory())
 }
 
-fn is_up(p: Power) -> bool
-    ensures { result ≡ is_up p }
+#[tactic(auto, unfolding(crate::specs::Damage::is_fresh))]
+fn is_fresh(k: &Cabinet) -> bool
+    ensures { result ≡ is_fresh k.now }
 {
-    match p {
-        Power::Down => false,
-        Power::Up => true,
-        Power::Stale => false,
-    }
+    k.kept == 1 && k.power == Power::Up && !k.marked && all_factory(&k.versions)
 }
 
-fn is_fresh(k: Cabinet) -> bool
-    ensures { result ≡ is_fresh k }
-{
-    let versions = k.versions;
-    let power = k.power;
-    if k.kept == 1 {
-        if is_up(power) {
-            if k.marked {
-                return false;
-            }
-            return all_factory(versions);
-        }
-        return false;
-    }
-    false
-}
-
-fn cabinet_sound(plan: Plan, steps: u32, i: usize, k: Cabinet) -> bool
-    ensures { result ≡ cabinet_sound plan steps i k }
+#[tactic(auto, unfolding(crate::specs::Damage::cabinet_sound))]
+fn cabinet_sound(plan: &Plan, steps: u32, i: usize, k: &Cabinet) -> bool
+    ensures { result ≡ cabinet_sound plan.now steps i k.now }
 {
     if i < plan.n as usize {
-        return record_sound(steps, i < plan.stores as usize, k);
+        record_sound(steps, i < plan.stores as usize, k)
+    } else {
+        is_fresh(k)
     }
-    is_fresh(k)
 }
 
-pub fn cabinets_sound(plan: Plan, steps: u32, cabinets: [Cabinet; MOST_CABINETS]) -> bool
-    ensures { result ≡ all_from (cabinet_sound plan steps) 0 cabinets }
+pub fn cabinets_sound(plan: &Plan, steps: u32, cabinets: &[Cabinet; MOST_CABINETS]) -> bool
+    ensures { result ≡ all_from (cabinet_sound plan.now steps) 0 cabinets.now }
 {
-    let mut i: usize = 0;
-    while i < MOST_CABINETS {
-        let k = cabinets[i];
-        if cabinet_sound(plan, steps, i, k) {
-            i += 1;
-        } else {
-            return false;
-        }
-    }
-    true
+    cabinets
+        .iter()
+        .enumerate()
+        .all(|(i, k)| cabinet_sound(plan, steps, i, k))
 }

@@ -9,60 +9,33 @@ use limits::MOST_CLIENTS;
 use plan::Plan;
 use types::{Client, Work};
 
+#[tactic(auto, unfolding(crate::specs::Damage::heard_sound))]
 fn heard_sound(n: u8, quorum: u8, h: Heard) -> bool
     ensures { result ≡ heard_sound n quorum h }
 {
-    if h.within(n) {
-        return h.count() < quorum;
-    }
-    false
+    h.within(n) && h.count() < quorum
 }
 
-fn work_sound(plan: Plan, h: Heard, w: Work) -> bool
-    ensures { result ≡ work_sound plan h w }
+fn work_sound(plan: &Plan, h: Heard, w: Work) -> bool
+    ensures { result ≡ work_sound plan.now h w }
 {
     match w {
-        Work::Idle => true,
-        Work::Gone => true,
-        Work::FirstWrite(r) => {
-            if r.in_range() {
-                heard_sound(plan.n, plan.read, h)
-            } else {
-                false
-            }
-        }
+        Work::Idle | Work::Gone => true,
+        Work::FirstWrite(r) => r.in_range() && heard_sound(plan.n, plan.read, h),
         Work::FirstRead => heard_sound(plan.n, plan.read, h),
-        Work::SecondWrite => heard_sound(plan.n, plan.write, h),
-        Work::SecondRead => heard_sound(plan.n, plan.write, h),
+        Work::SecondWrite | Work::SecondRead => heard_sound(plan.n, plan.write, h),
     }
 }
 
-fn client_sound(plan: Plan, steps: u32, c: Client) -> bool
-    ensures { result ≡ client_sound plan steps 0 c }
+#[tactic(auto, unfolding(crate::specs::Damage::client_sound))]
+fn client_sound(plan: &Plan, steps: u32, c: &Client) -> bool
+    ensures { result ≡ client_sound plan.now steps 0 c.now }
 {
-    let best = c.best;
-    let h = c.heard;
-    let w = c.work;
-    if c.operation <= steps {
-        if entries::entry_sound(steps, best) {
-            return work_sound(plan, h, w);
-        }
-        return false;
-    }
-    false
+    c.operation <= steps && entries::entry_sound(steps, c.best) && work_sound(plan, c.heard, c.work)
 }
 
-pub fn clients_sound(plan: Plan, steps: u32, clients: [Client; MOST_CLIENTS]) -> bool
-    ensures { result ≡ all_from (client_sound plan steps) 0 clients }
+pub fn clients_sound(plan: &Plan, steps: u32, clients: &[Client; MOST_CLIENTS]) -> bool
+    ensures { result ≡ all_from (client_sound plan.now steps) 0 clients.now }
 {
-    let mut i: usize = 0;
-    while i < MOST_CLIENTS {
-        let c = clients[i];
-        if client_sound(plan, steps, c) {
-            i += 1;
-        } else {
-            return false;
-        }
-    }
-    true
+    clients.iter().all(|c| client_sound(plan, steps, c))
 }

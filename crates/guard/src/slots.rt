@@ -1,136 +1,55 @@
 // Messages that an undamaged run may hold.
 ghost use Rattle.std.specs.Prelude.{◌≡◌};
 ghost use Rattle.guard.specs.All.{all_from};
-ghost use Rattle.guard.specs.Damage.{request_first, request_second, reply_first, reply_second, request_sound, reply_sound, address_sound, slot_sound};
+ghost use Rattle.guard.specs.Damage.{request_sound, reply_sound, address_sound, slot_sound};
 
 use super::entries;
 use limits::{MOST_SLOTS, byte};
 use types::{Body, Held, Message, Slot};
 
-fn request_first(b: Body) -> bool
-    ensures { result ≡ request_first b }
-{
-    match b {
-        Body::AskStamp => true,
-        Body::AskEntry => true,
-        Body::Offer(_) => false,
-        Body::TellStamp(_) => false,
-        Body::TellEntry(_) => false,
-        Body::Acknowledge => false,
-    }
-}
-
-fn request_second(steps: u32, b: Body) -> bool
-    ensures { result ≡ request_second steps b }
-{
-    match b {
-        Body::AskStamp => false,
-        Body::AskEntry => false,
-        Body::Offer(e) => entries::entry_sound(steps, e),
-        Body::TellStamp(_) => false,
-        Body::TellEntry(_) => false,
-        Body::Acknowledge => false,
-    }
-}
-
-fn reply_first(steps: u32, b: Body) -> bool
-    ensures { result ≡ reply_first steps b }
-{
-    match b {
-        Body::AskStamp => false,
-        Body::AskEntry => false,
-        Body::Offer(_) => false,
-        Body::TellStamp(s) => entries::stamp_sound(steps, s),
-        Body::TellEntry(e) => entries::entry_sound(steps, e),
-        Body::Acknowledge => false,
-    }
-}
-
-fn reply_second(b: Body) -> bool
-    ensures { result ≡ reply_second b }
-{
-    match b {
-        Body::AskStamp => false,
-        Body::AskEntry => false,
-        Body::Offer(_) => false,
-        Body::TellStamp(_) => false,
-        Body::TellEntry(_) => false,
-        Body::Acknowledge => true,
-    }
-}
-
+#[tactic(auto, unfolding(crate::specs::Damage::request_sound))]
 fn request_sound(steps: u32, part: u8, b: Body) -> bool
     ensures { result ≡ request_sound steps part b }
 {
-    if part == 1 {
-        return request_first(b);
+    match (part, b) {
+        (1, Body::AskStamp | Body::AskEntry) => true,
+        (2, Body::Offer(e)) => entries::entry_sound(steps, e),
+        _ => false,
     }
-    if part == 2 {
-        return request_second(steps, b);
-    }
-    false
 }
 
+#[tactic(auto, unfolding(crate::specs::Damage::reply_sound))]
 fn reply_sound(steps: u32, part: u8, b: Body) -> bool
     ensures { result ≡ reply_sound steps part b }
 {
-    if part == 1 {
-        return reply_first(steps, b);
+    match (part, b) {
+        (1, Body::TellStamp(s)) => entries::stamp_sound(steps, s),
+        (1, Body::TellEntry(e)) => entries::entry_sound(steps, e),
+        (2, Body::Acknowledge) => true,
+        _ => false,
     }
-    if part == 2 {
-        return reply_second(b);
-    }
-    false
 }
 
-fn address_sound(n: u8, steps: u32, m: Message) -> bool
-    ensures { result ≡ address_sound n steps m }
+#[tactic(auto, unfolding(crate::specs::Damage::address_sound))]
+fn address_sound(n: u8, steps: u32, m: &Message) -> bool
+    ensures { result ≡ address_sound n steps m.now }
 {
-    if m.operation <= steps {
-        if m.client < byte::MOST_CLIENTS {
-            return m.cabinet < n;
-        }
-        return false;
-    }
-    false
+    m.operation <= steps && m.client < byte::MOST_CLIENTS && m.cabinet < n
 }
 
-fn slot_sound(n: u8, steps: u32, t: Slot) -> bool
-    ensures { result ≡ slot_sound n steps 0 t }
+#[tactic(auto, unfolding(crate::specs::Damage::slot_sound))]
+fn slot_sound(n: u8, steps: u32, t: &Slot) -> bool
+    ensures { result ≡ slot_sound n steps 0 t.now }
 {
-    let h = t.held;
-    match h {
+    match &t.held {
         Held::Empty => true,
-        Held::Request(m) => {
-            if address_sound(n, steps, m) {
-                let b = m.body;
-                request_sound(steps, m.part, b)
-            } else {
-                false
-            }
-        }
-        Held::Reply(m) => {
-            if address_sound(n, steps, m) {
-                let b = m.body;
-                reply_sound(steps, m.part, b)
-            } else {
-                false
-            }
-        }
+        Held::Request(m) => address_sound(n, steps, m) && request_sound(steps, m.part, m.body),
+        Held::Reply(m) => address_sound(n, steps, m) && reply_sound(steps, m.part, m.body),
     }
 }
 
-pub fn slots_sound(n: u8, steps: u32, slots: [Slot; MOST_SLOTS]) -> bool
-    ensures { result ≡ all_from (slot_sound n steps) 0 slots }
+pub fn slots_sound(n: u8, steps: u32, slots: &[Slot; MOST_SLOTS]) -> bool
+    ensures { result ≡ all_from (slot_sound n steps) 0 slots.now }
 {
-    let mut j: usize = 0;
-    while j < MOST_SLOTS {
-        let t = slots[j];
-        if slot_sound(n, steps, t) {
-            j += 1;
-        } else {
-            return false;
-        }
-    }
-    true
+    slots.iter().all(|t| slot_sound(n, steps, t))
 }

@@ -1,28 +1,15 @@
--- `clients_sound` meets its contract: places below i pass the test, and the rest are looked at from i on. Assumes nothing.
+-- `clients_sound` meets its contract. Assumes nothing.
+use mathlib.Core.Path.{refl, ◌∙◌}
 use borrow.Author.Rules.{rules}
-use mathlib.Core.Path.{refl, sym, ◌∙◌}
-use native.Mathlib.Omega.{arith}
-use Rattle.guard.proofs.ScanLaws.{all_end, all_stop, all_next}
+use borrow.Author.Tests.{tests}
+use Rattle.std.proofs.lemmas.Iterator.{YieldsList-from_slice}
+use Rattle.std.proofs.lemmas.Iterator.Search.{all_from_yields_List}
 use Rattle.guard.specs.Damage.{client_sound}
+use Rattle.guard.proofs.AllLaws.{all_alike}
 use Rattle.guard.proofs.clients.clients_sound.Goals as goal
 
-pub loop-i-init : goal.loop-i-init
-loop-i-init c = (search rules, search rules, refl)
-
-pub loop-i-preserved : goal.loop-i-preserved
-unfolding client_sound
-loop-i-preserved c =
-    let a = c.args in
-    (omega arith, c.loop-i.invariant.1, c.loop-i.invariant.2 ∙ all_next (client_sound a.plan a.steps) a.clients c.loop-i.i _ (sym c.client_sound.ensures ∙ c.if-client_sound.true) (omega arith))
-
-pub returns-else-client_sound : goal.returns-else-client_sound
-unfolding client_sound
-returns-else-client_sound c =
-    let a = c.args in
-    all_stop (client_sound a.plan a.steps) a.clients c.loop-i.i _ (sym c.client_sound.ensures ∙ c.if-client_sound.false) (omega arith)
-    ∙ sym c.loop-i.invariant.2
-
 pub returns : goal.returns
+unfolding client_sound
 returns c =
-    let a = c.args in
-    all_end (client_sound a.plan a.steps) a.clients c.loop-i.i (omega arith) ∙ sym c.loop-i.invariant.2
+    all_from_yields_List (client_sound c.args.plan.now c.args.steps 0) _ _ _ c.all.ensures.ran (YieldsList-from_slice c.args.clients.now cc) (λ x b q k. search (rules, tests))
+    ∙ all_alike (client_sound c.args.plan.now c.args.steps) (λ i j x. refl) 0 0 c.args.clients.now
