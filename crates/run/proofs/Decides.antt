@@ -2,16 +2,16 @@
 -- and every part of the next run, and it requires nothing. `Post` and `Pre` are the contract as the checker reads it in src/, so a weaker one is
 -- refused here, and one that asks for something. Assumes nothing.
 use Prim.Native.Nat.{ℕ}
-use mathlib.Core.Path.{◌≡◌, sym, ◌∙◌}
+use mathlib.Core.Path.{◌≡◌, sym, ap, ◌∙◌}
 use mathlib.Core.Bool.{Bool}
-use Rattle.run.specs.Names.{Sight, Started, Stepped}
+use Rattle.run.specs.Names.{Answer, Run, Sight, Started, Stepped}
 use Rattle.run.proofs.fresh.start.Reads as start
 use Rattle.run.proofs.gather.is_empty.Reads as is-empty
-use Rattle.run.proofs.gather.others_marked.Reads as others-marked
+use Rattle.run.proofs.Run.others_marked.Reads as others-marked
 use Rattle.run.proofs.gather.sight.Reads as sight
-use Rattle.run.proofs.guarded.undamaged.Reads as undamaged
-use Rattle.run.proofs.steps.go.Reads as go
-use Rattle.run.proofs.steps.take.Reads as take
+use Rattle.run.proofs.Run.undamaged.Reads as undamaged
+use Rattle.run.proofs.Run.go.Reads as go
+use Rattle.run.proofs.Run.take.Reads as take
 
 pub start_decides : (κs : _) (a : _) (x y : Started) (s s' : _) → start.Post κs a x s → start.Post κs a y s' → x ≡ y
 start_decides κs a x y s s' p q = p ∙ sym q
@@ -25,14 +25,14 @@ undamaged_decides κs a x y s s' p q = p ∙ sym q
 pub undamaged_any : (κs : _) (a : _) → undamaged.Pre κs a
 undamaged_any κs a = tt
 
-pub take_decides : (κs : _) (a : _) (x y : Stepped) (s s' : _) → take.Post κs a x s → take.Post κs a y s' → x ≡ y
-take_decides κs a x y s s' p q = p ∙ sym q
+pub take_decides : (κs : _) (a : _) (x y : Answer) (s s' : _) → take.Post κs a x s → take.Post κs a y s' → x ≡ y
+take_decides κs a x y s s' p q = ap Stepped.answer (p ∙ sym q)
 
 pub take_any : (κs : _) (a : _) → take.Pre κs a
 take_any κs a = tt
 
-pub go_decides : (κs : _) (a : _) (x y : Stepped) (s s' : _) → go.Post κs a x s → go.Post κs a y s' → x ≡ y
-go_decides κs a x y s s' p q = p ∙ sym q
+pub go_decides : (κs : _) (a : _) (x y : Answer) (s s' : _) → go.Post κs a x s → go.Post κs a y s' → x ≡ y
+go_decides κs a x y s s' p q = ap Stepped.answer (p ∙ sym q)
 
 pub is_empty_decides : (κs : _) (a : _) (x y : Bool) (s s' : _) → is-empty.Post κs a x s → is-empty.Post κs a y s' → x ≡ y
 is_empty_decides κs a x y s s' p q = p ∙ sym q

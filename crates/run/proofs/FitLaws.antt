@@ -72,3 +72,6 @@ module _ (run : Run) (whole : undamaged run ≡ true) where
     reply_told g =
         let h = subst (HeldIs run.plan.n run.steps) g (holds j) in
         omega (arith, tells_low run.steps m.part m.body h.1, steps_most)
+
+-- what the code of a step needs of these
+pub ruleset in_run = (steps_most, client_operation, client_best, request_places, reply_places, reply_told)

@@ -1,47 +1,56 @@
--- Laws of the two scans, for a free slot and for marked cabinets: one law for each way that a turn can go. Assumes nothing.
-use Prim.Native.Nat.{ℕ, zero, suc, ◌+◌, ◌≤◌, ◌<◌}
-use mathlib.Core.Path.{◌≡◌}
-use mathlib.Core.Bool.{true, false, not, ◌&&◌}
-use mathlib.Core.List.{List, [], ◌∷◌}
+-- Laws of the two scans, for a free slot and for marked cabinets: what is counted from a place on is what std finds in the list. Assumes nothing.
+use Rattle.std.proofs.Common.{ℕ, zero, suc, ◌+◌, ◌≡◌, ◌≤◌, ◌<◌, Bool, true, false, cond, not, ◌&&◌, List, [], ◌∷◌, Option, Some, None, length, sym, ap, refl, ◌∙◌, arith, nat_lt, cond}
+use Rattle.std.proofs.lemmas.Bool.Decides.{nat_tests}
+use Rattle.std.specs.List.{prefix_len, position_or_len, filter, enumerate_from}
 use native.Mathlib.Numerals.{add-one}
-use native.Mathlib.Omega.{arith}
-use lib.Dec.{eqb}
-use lib.ListN.{length, get_or, drop, drop_of_length-le}
-use lib.Seq.{drop-cons, drop-nil}
+use lib.Dec.{eqb, ltb}
+use Rattle.limits.specs.Limits.{most_slots}
 use Rattle.run.specs.Names.{Cabinet, Slot}
-use Rattle.types.specs.Parts.{empty_slot}
 use Rattle.run.specs.Gather.{is_empty, first_from, others_from}
 
-pub first_end : (l : List Slot) (i : ℕ) → length l ≤ i → first_from i (drop i l) ≡ i
+abbrev pub free : Slot → Bool
+free t = is_empty t.held
+
+first_is : (i : ℕ) (l : List Slot) → first_from i l ≡ i + position_or_len free l
 unfolding first_from
-first_end l i h = rw (drop_of_length-le l {i = i} h)
+first_is i [] = omega arith
+first_is i (t ∷ l) = go (free t) (first_is (suc i) l)
+  where
+    go : (b : Bool) → first_from (suc i) l ≡ suc i + position_or_len free l
+        → cond b i (first_from (suc i) l) ≡ i + cond (not b) (1 + position_or_len free l) 0
+    go true e = omega arith
+    go false e = omega arith
 
--- past the end a slot counts as free, so that none of these asks for the list's length
-pub first_here : (l : List Slot) (i k : ℕ) → is_empty (get_or l i empty_slot).held ≡ true → first_from k (drop i l) ≡ k
-unfolding first_from
-first_here [] i k e = rw (drop-nil {A = Slot} i)
-first_here (t ∷ l) zero k e = rw e
-first_here (t ∷ l) (suc i) k e = first_here l i k e
+module _ (l : List Slot) (r : Option ℕ) (e : r ≡ cond (ltb (position_or_len free l) (length l)) (Some (position_or_len free l)) None) where
+  pub first_found : (j : ℕ) → r ≡ Some j → (first_from 0 l ≡ j) × (j < length l)
+  first_found j f = grind (arith, nat_tests, first_is 0 l)
 
-next : (l : List Slot) (i k : ℕ) → is_empty (get_or l i empty_slot).held ≡ false → first_from k (drop i l) ≡ first_from (suc k) (drop (suc i) l)
-unfolding first_from
-next [] i k e = absurd (let z : ◌≡◌ {A = ℕ} 0 1 = cc in omega arith)
-next (t ∷ l) zero k e = rw e
-next (t ∷ l) (suc i) k e = next l i k e
+  pub first_none : r ≡ None → length l ≤ first_from 0 l
+  first_none f = grind (arith, nat_tests, first_is 0 l)
 
-pub first_next : (l : List Slot) (i k : ℕ) → is_empty (get_or l i empty_slot).held ≡ false
-    → first_from k (drop i l) ≡ first_from (k + 1) (drop (i + 1) l)
-first_next l i k e = rw (add-one, add-one) (next l i k e)
+-- the cabinets at other places than p that are marked
+abbrev pub other : ℕ → ℕ × Cabinet → Bool
+other p q = not (eqb q.0 p) && q.1.marked
 
-pub others_end : (p : ℕ) (l : List Cabinet) (i : ℕ) → length l ≤ i → others_from p i (drop i l) ≡ 0
+pub others_are : (p i : ℕ) (l : List Cabinet) → length (filter (other p) (enumerate_from i l)) ≡ others_from p i l
 unfolding others_from
-others_end p l i h = rw (drop_of_length-le l {i = i} h)
+others_are p i [] = refl
+others_are p i (k ∷ l) = go (other p (i, k)) (rw add-one (others_are p (suc i) l))
+  where
+    rest : List (ℕ × Cabinet)
+    rest = filter (other p) (enumerate_from (i + 1) l)
 
-module _ (p : ℕ) (l : List Cabinet) (i : ℕ) (d : Cabinet) (h : i < length l) where
-  pub others_more : not (eqb i p) && (get_or l i d).marked ≡ true → others_from p i (drop i l) ≡ 1 + others_from p (i + 1) (drop (i + 1) l)
-  unfolding others_from
-  others_more e = rw (add-one, drop-cons l i d h, e)
+    go : (b : Bool) → length rest ≡ others_from p (suc i) l → length (cond b ((i, k) ∷ rest) rest) ≡ cond b 1 0 + others_from p (suc i) l
+    go true e = omega arith
+    go false e = omega arith
 
-  pub others_same : not (eqb i p) && (get_or l i d).marked ≡ false → others_from p i (drop i l) ≡ others_from p (i + 1) (drop (i + 1) l)
-  unfolding others_from
-  others_same e = rw (add-one, drop-cons l i d h, e) (omega arith)
+pub others_few : (p i : ℕ) (l : List Cabinet) → length (filter (other p) (enumerate_from i l)) ≤ length l
+others_few p i [] = omega arith
+others_few p i (k ∷ l) = go (other p (i, k)) (others_few p (i + 1) l)
+  where
+    rest : List (ℕ × Cabinet)
+    rest = filter (other p) (enumerate_from (i + 1) l)
+
+    go : (b : Bool) → length rest ≤ length l → length (cond b ((i, k) ∷ rest) rest) ≤ length (k ∷ l)
+    go true e = omega arith
+    go false e = omega arith

@@ -1,34 +1,29 @@
--- What the one turn of `go` keeps. Assumes nothing.
-use Prim.Native.Nat.{◌<◌}
-use mathlib.Core.Bool.{Bool, true, false, cond}
-use mathlib.Core.Path.{◌≡◌, refl, sym, ap, subst, ◌∙◌}
-use native.Mathlib.Omega.{arith}
-use Rattle.run.specs.Names.{Answer, Refusal, Run, Step, Stepped}
-use Rattle.run.specs.Steps.{step_of}
+-- A step that was let in is the step that is decided and put back, and its places are the run's. Assumes nothing.
+use Rattle.std.proofs.Common.{ℕ, ◌<◌, ◌≤◌, ◌≡◌, true, sym, ap, subst, ◌∙◌, arith}
+use Rattle.limits.specs.Limits.{most_cabinets}
+use Rattle.run.specs.Names.{Asked, Err, Ok, Refusal, Result, Run, Step, Stepped}
+use Rattle.admit.specs.Admit.{admit_of}
+use Rattle.admit.proofs.AdmitLaws.{Placed, admitted_placed}
+use Rattle.run.specs.Steps.{decide_of, put_back, stepped_of, go_of, step_of}
 use Rattle.run.specs.Undamaged.{undamaged}
-use Rattle.run.proofs.FrameLaws.{step_damaged}
+use Rattle.run.proofs.FitLaws.{cabinets_range}
+use Rattle.run.proofs.FrameLaws.{step_is_go}
 
--- a step that is due finds the run whole and as it came; after it the answer and the run are the step's
-abbrev pub Doing : Run → Step → Bool → Answer → Run → Type 0
-Doing run₀ s true says run = (undamaged run ≡ true) × (run ≡ run₀)
-Doing run₀ s false says run = step_of run₀ s ≡ record { answer = says; run = run }
+-- r is what admission answered, a what it let in
+module _ (run : Run) (s : Step) (r : Result Asked Refusal) (by : r ≡ admit_of run.plan.n run.steps s) where
+  pub barred : undamaged run ≡ true → (why : Refusal) → r ≡ Err why → step_of run s ≡ record { answer = Err why; run = run }
+  unfolding go_of decide_of
+  barred whole why e = step_is_go run s whole ∙ ap (λ (x : Result Asked Refusal). put_back run (decide_of run x)) (sym by ∙ e)
 
-pub whole : (run₀ : Run) (s : Step) (b : Bool) (says : Answer) (run : Run) → b ≡ true → Doing run₀ s b says run → (undamaged run ≡ true) × (run ≡ run₀)
-whole run₀ s b says run e inv = subst (λ (d : Bool). Doing run₀ s d says run) e inv
+  module _ (a : Asked) (e : r ≡ Ok a) where
+    pub let_in : undamaged run ≡ true → (b : Asked) → a ≡ b → step_of run s ≡ stepped_of run b
+    unfolding go_of
+    let_in whole b f =
+        step_is_go run s whole ∙ ap (λ (x : Result Asked Refusal). put_back run (decide_of run x)) (sym by ∙ e ∙ ap Ok f)
 
--- a damaged run is answered before the loop
-pub starts : (run : Run) (s : Step) (b : Bool) → b ≡ undamaged run → Doing run s b (Err Refusal.Damaged) run
-starts run s true e = (sym e, refl)
-starts run s false e = step_damaged run s (sym e)
+    pub placed_in : (b : Asked) → a ≡ b → Placed run.plan.n (Ok b)
+    placed_in b f = subst (Placed run.plan.n) (sym by ∙ e ∙ ap Ok f) (admitted_placed run.plan.n run.steps s)
 
-pub ends : (run₀ : Run) (s : Step) (b : Bool) (says : Answer) (run : Run) → Doing run₀ s b says run → b ≡ false
-    → ◌≡◌ {A = Stepped} (record { answer = says; run = run }) (step_of run₀ s)
-ends run₀ s b says run inv e = sym (subst (λ (d : Bool). Doing run₀ s d says run) e inv)
-
--- what an arm stored is what the step makes of the run as it came
-pub over : {run run₀ : Run} (s : Step) {r : Stepped} → run ≡ run₀ → step_of run s ≡ r → step_of run₀ s ≡ r
-over s same e = ap (λ (x : Run). step_of x s) (sym same) ∙ e
-
--- the loop's measure falls
-pub falls : (b : Bool) → b ≡ true → 0 < cond b 1 0
-falls b e = rw e (omega arith)
+-- a cabinet of the line is one of the nine
+pub of_nine : (run : Run) → undamaged run ≡ true → (p : ℕ) → p < run.plan.n → p < most_cabinets
+of_nine run whole p l = omega (arith, l, (cabinets_range run whole).1)

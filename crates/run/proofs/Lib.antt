@@ -1,10 +1,9 @@
-pub mod ArmLaws
 pub mod ChangeLaws
 pub mod Decides
 pub mod FitLaws
 pub mod FrameLaws
 pub mod GatherLaws
-mod GoLaws
+pub mod GoLaws
 pub mod GuardLaws
 pub mod ListLaws
 pub mod MeetLaws

@@ -6,7 +6,7 @@ use mathlib.Core.Path.{◌≡◌, refl}
 use lib.Dec.{leb, ltb}
 use lib.ListN.{get_or}
 use Rattle.limits.specs.Limits.{most_cabinets, most_clients, most_slots}
-use Rattle.run.specs.Names.{Asked, Body, Change, Client, Decision, Deed, Entry, Heard, Held, Message, Outcome, Plan, Power, Refusal, Run, Sight, Slot, Standing, Step, Told, Work}
+use Rattle.run.specs.Names.{Asked, Body, Change, Client, Decision, Deed, Entry, Err, Heard, Held, Message, None, Ok, Option, Outcome, Plan, Power, Refusal, Result, Run, Sight, Slot, Some, Standing, Step, Told, Work}
 use Rattle.cabinet.specs.Cabinets.{goes_back}
 use Rattle.heard.specs.Heard.{count_of}
 use Rattle.types.specs.Parts.{empty_slot, stored_in, sight_of}
@@ -56,7 +56,7 @@ module _ (may : Deed → Type 0) (at : Met) where
   sends_at Standing.Away i k c = refuses
   sends_at Standing.Busy i k c = either (Meets may at) (leb most_slots at.slot) _ _ refuses on_slot
 
-  hears_at : (d : Told) (plan : Plan) (c : Client) (h : Heard) → Meets may at (hear_by d plan at.client at.slot c h)
+  hears_at : (d : Option Told) (plan : Plan) (c : Client) (h : Heard) → Meets may at (hear_by d plan at.client at.slot c h)
   unfolding first_write first_read second
   hears_at None plan c h = on_slot
   hears_at (Some (Told.OfWrite r e)) plan c h = either (Meets may at) (leb plan.read (count_of h)) _ _ on_hearing on_hearing
@@ -90,7 +90,7 @@ module _ (may : Deed → Type 0) (j : ℕ) (m : Message) (k : Sight) where
 
 -- ---- of a whole run
 
-abbrev pub asked_of : Run → Step → Asked
+abbrev pub asked_of : Run → Step → Result Asked Refusal
 asked_of run s = admit_of run.plan.n run.steps s
 
 abbrev pub met_by : Held → ℕ → Met
@@ -99,7 +99,7 @@ met_by (Held.Request m) j = met most_clients m.cabinet j
 met_by (Held.Reply m) j = met m.client most_cabinets j
 
 -- it goes by the slots alone
-abbrev met_in : List Slot → Asked → Met
+abbrev met_in : List Slot → Result Asked Refusal → Met
 met_in l (Err why) = met most_clients most_cabinets most_slots
 met_in l (Ok (Asked.Begins i w)) = met i most_cabinets most_slots
 met_in l (Ok (Asked.Leaves i)) = met i most_cabinets most_slots
@@ -110,11 +110,11 @@ met_in l (Ok (Asked.Stops p)) = met most_clients p most_slots
 met_in l (Ok (Asked.Restarts p)) = met most_clients p most_slots
 met_in l (Ok (Asked.RollsBack p j)) = met most_clients p most_slots
 
-abbrev pub met_at : Run → Asked → Met
+abbrev pub met_at : Run → Result Asked Refusal → Met
 met_at run a = met_in run.slots a
 
 -- the deed of a stop, a restart and a rollback that is let through; no other step has one
-abbrev pub Does : Run → Asked → Deed → Type 0
+abbrev pub Does : Run → Result Asked Refusal → Deed → Type 0
 Does run (Err why) d = ⊥
 Does run (Ok (Asked.Begins i w)) d = ⊥
 Does run (Ok (Asked.Leaves i)) d = ⊥
@@ -148,7 +148,7 @@ module _ (run : Run) where
       go true false e f = refuses
       go false t e f = refuses
 
-  pub run_at : (a : Asked) → Meets (Does run a) (met_at run a) (decide_of run a)
+  pub run_at : (a : Result Asked Refusal) → Meets (Does run a) (met_at run a) (decide_of run a)
   unfolding decide_of slot_at begins_of sends_of leaves_of
   run_at (Err why) = refuses
   run_at (Ok (Asked.Begins i w)) = begins_at _ (met i most_cabinets most_slots) (standing_of (client_at run i).work) (client_at run i) w

@@ -6,7 +6,7 @@ use native.Mathlib.Omega.{arith}
 use lib.Dec.{eqb, leb}
 use borrow.Author.Tests.{leb-false}
 use Rattle.limits.specs.Limits.{most_clients}
-use Rattle.run.specs.Names.{Body, Client, Ending, Entry, Heard, Message, Plan, Reading, Told, Work}
+use Rattle.run.specs.Names.{Body, Client, Ending, Entry, Heard, Message, None, Option, Plan, Reading, Some, Told, Work}
 use Rattle.plan.proofs.RuleLaws.{both, Quorums}
 use Rattle.cabinet.specs.Entries.{factory_entry, reading_in, takes}
 use Rattle.heard.specs.Heard.{none_heard, with_of, count_of, within_of}
@@ -21,7 +21,7 @@ use Rattle.run.proofs.UndamagedClients.{none_sound}
 -- ---- what is told
 
 -- what is told is sound, and of the part that is open
-abbrev Fair : Plan → ℕ → Client → Told → Type 0
+abbrev Fair : Plan → ℕ → Client → Option Told → Type 0
 Fair plan steps c None = Unit {0}
 Fair plan steps c (Some (Told.OfWrite r e)) =
     (c.work ≡ Work.FirstWrite r) × (entry_sound steps e ≡ true) × (reading_in r ≡ true) × (within_of c.heard plan.n ≡ true)
@@ -49,7 +49,7 @@ module _ (plan : Plan) (steps part : ℕ) (c : Client) where
   entry_fair (Body.TellEntry x) e w t = (e, t.1, w)
   entry_fair Body.Acknowledge e w t = tt
 
-  taken_fair : (d : Told) (b : Body) → Fair plan steps c d → Fair plan steps c (told_taken d b)
+  taken_fair : (d : Option Told) (b : Body) → Fair plan steps c d → Fair plan steps c (told_taken d b)
   taken_fair d Body.AskStamp f = tt
   taken_fair d Body.AskEntry f = tt
   taken_fair d (Body.Offer x) f = tt
@@ -156,7 +156,7 @@ module _ (plan : Plan) (steps j : ℕ) (c : Client) (m : Message) (q : Quorums p
   near : within_of c.heard plan.n ≡ true → within_of next plan.n ≡ true
   near w = with_within c.heard plan.n m.cabinet (address_says plan.n steps m address).2 w
 
-  told_keeps : (d : Told) → Fair plan steps c d → Keeps plan (steps + 1) (hear_by d plan m.client j c next)
+  told_keeps : (d : Option Told) → Fair plan steps c d → Keeps plan (steps + 1) (hear_by d plan m.client j c next)
   told_keeps None f = of_slot (empty_sound plan.n (steps + 1) j)
   told_keeps (Some (Told.OfWrite r e)) f =
       first_write_keeps plan steps m.client j c q (address_says plan.n steps m address).1 sound next (near f.3) r _ f.0 f.2

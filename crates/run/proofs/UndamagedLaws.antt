@@ -6,7 +6,7 @@ use mathlib.Core.Path.{◌≡◌, refl}
 use native.Mathlib.Omega.{arith}
 use lib.Dec.{ltb}
 use Rattle.limits.specs.Limits.{most_cabinets, most_clients, most_slots, most_versions}
-use Rattle.run.specs.Names.{Asked, Held, Plan, Planned, Power, Run, Sight, Step}
+use Rattle.run.specs.Names.{Refusal, Asked, Err, Held, Ok, Plan, Planned, Power, Result, Run, Sight, Step, Unplanned}
 use Rattle.plan.specs.Rule.{in_range, chosen, plan_of, forgetful_plan}
 use Rattle.plan.proofs.RuledLaws.{accepted_ruled}
 use Rattle.cabinet.specs.Cabinets.{fresh_cabinet, has_version}
@@ -56,7 +56,7 @@ module _ (run : Run) (sound : Sound run) where
       hears_keeps run.plan run.steps j (client_at run m.client) m (sound_plan run sound) (sound_client run sound m.client) f.0
       f.1
 
-  asked_keeps : (a : Asked) → Placed run.plan.n a → Keeps run.plan (run.steps + 1) (decide_of run a)
+  asked_keeps : (a : Result Asked Refusal) → Placed run.plan.n a → Keeps run.plan (run.steps + 1) (decide_of run a)
   unfolding decide_of
   asked_keeps (Err why) p = refused
   asked_keeps (Ok (Asked.Begins i w)) p =

@@ -1,6 +1,9 @@
 -- The types that this crate speaks of, under one roof.
+pub use Rattle.std.specs.Prelude.{Result, Ok, Err, Some, None, Option}
+pub use Rattle.types.specs.Names.{Answer}
 pub use Rattle.plan.specs.declared.Plan.{Plan}
-pub use Rattle.plan.specs.declared.Planned.{Planned}
+pub use Rattle.plan.specs.Names.{Planned}
+pub use Rattle.plan.specs.declared.Unplanned.{Unplanned}
 pub use Rattle.cabinet.specs.declared.entry.Reading.{Reading}
 pub use Rattle.cabinet.specs.declared.entry.Entry.{Entry}
 pub use Rattle.cabinet.specs.declared.record.Power.{Power}
@@ -9,7 +12,6 @@ pub use Rattle.heard.specs.declared.Heard.{Heard}
 pub use Rattle.types.specs.declared.answer.Refusal.{Refusal}
 pub use Rattle.types.specs.declared.answer.Ending.{Ending}
 pub use Rattle.types.specs.declared.answer.Outcome.{Outcome}
-pub use Rattle.types.specs.declared.answer.Answer.{Answer}
 pub use Rattle.types.specs.declared.answer.Sight.{Sight}
 pub use Rattle.types.specs.declared.client.Work.{Work}
 pub use Rattle.types.specs.declared.client.Client.{Client}
@@ -21,11 +23,13 @@ pub use Rattle.types.specs.declared.step.Step.{Step}
 pub use Rattle.types.specs.declared.step.Asked.{Asked}
 pub use Rattle.types.specs.Decisions.{Deed, Change, Decision}
 pub use Rattle.client.specs.declared.begin.Standing.{Standing}
-pub use Rattle.client.specs.declared.begin.Moved.{Moved}
-pub use Rattle.client.specs.declared.begin.Asking.{Asking}
 pub use Rattle.client.specs.declared.hear.Told.{Told}
 pub use Rattle.client.specs.declared.hear.Hears.{Hears}
 pub use Rattle.server.specs.declared.request.Back.{Back}
 pub use Rattle.run.specs.declared.Run.{Run}
-pub use Rattle.run.specs.declared.Started.{Started}
-pub use Rattle.run.specs.declared.Stepped.{Stepped}
+pub use Rattle.run.specs.declared.fresh.Started.{Started}
+
+-- S5.2: what is answered, and the run afterwards
+pub record Stepped : Type 0 where
+  pub answer : Answer
+  pub run : Run

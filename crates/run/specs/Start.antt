@@ -1,7 +1,7 @@
 -- A fresh run and the call that plans one: clauses S3.7 and S4 of docs/SCOPE.md.
 use Rattle.std.specs.Prelude.{ℕ, replicate}
 use Rattle.limits.specs.Limits.{most_cabinets, most_clients, most_slots}
-use Rattle.run.specs.Names.{Plan, Planned, Run, Started}
+use Rattle.run.specs.Names.{Err, Ok, Plan, Planned, Run, Started, Unplanned}
 use Rattle.plan.specs.Rule.{plan_of, forgetful_plan}
 use Rattle.cabinet.specs.Cabinets.{fresh_cabinet}
 use Rattle.types.specs.Parts.{empty_slot, fresh_client}
@@ -13,8 +13,8 @@ fresh_run p =
 
 -- S3.7: the fresh run of the plan, or of 2,0,0,0 beside a refusal
 abbrev pub start_by : Planned → Started
-start_by (Err Unplanned.OutOfRange) = record { planned = (Err Unplanned.OutOfRange); run = fresh_run (forgetful_plan 2 0 0 0) }
-start_by (Err Unplanned.TooSmall) = record { planned = (Err Unplanned.TooSmall); run = fresh_run (forgetful_plan 2 0 0 0) }
+start_by (Err Unplanned.OutOfRange) = record { planned = Err Unplanned.OutOfRange; run = fresh_run (forgetful_plan 2 0 0 0) }
+start_by (Err Unplanned.TooSmall) = record { planned = Err Unplanned.TooSmall; run = fresh_run (forgetful_plan 2 0 0 0) }
 start_by (Ok p) = record { planned = Ok p; run = fresh_run p }
 
 -- S3.6, S3.7: a plan is answered

@@ -1,6 +1,6 @@
 -- One step of a run: decide, put back. `step_of` is clauses S5 to S12 of docs/SCOPE.md, the published paper's static algorithm (S1.1).
 use Rattle.std.specs.Prelude.{ℕ, ◌+◌, cond, List, get_or, set}
-use Rattle.run.specs.Names.{Answer, Asked, Cabinet, Change, Client, Decision, Deed, Held, Outcome, Plan, Refusal, Run, Slot, Step, Stepped}
+use Rattle.run.specs.Names.{Answer, Asked, Cabinet, Change, Client, Decision, Deed, Err, Held, Ok, Outcome, Plan, Refusal, Result, Run, Slot, Step, Stepped}
 use Rattle.types.specs.Parts.{empty_slot, fresh_client, no_cabinet, sight_of}
 use Rattle.admit.specs.Admit.{admit_of}
 use Rattle.client.specs.Begin.{begins_of, sends_of, leaves_of}
@@ -41,7 +41,7 @@ delivers_in run j (Held.Request m) = answers_of j m (sight_of (cabinet_at run m.
 delivers_in run j (Held.Reply m) = hears_of run.plan j (client_at run m.client) m
 
 -- S5.1: each kind of step over the parts that it meets
-unfoldable pub decide_of : Run → Asked → Decision
+unfoldable pub decide_of : Run → Result Asked Refusal → Decision
 decide_of run (Err why) = Decision.No why
 decide_of run (Ok (Asked.Begins i w)) = begins_of i (client_at run i) w
 decide_of run (Ok (Asked.Leaves i)) = leaves_of i (client_at run i)
@@ -99,6 +99,10 @@ put_back run (Decision.No why) = record { answer = Err why; run = run }
 put_back run (Decision.Yes o x) = record { answer = Ok o; run = changed run x }
 
 -- ---- the step
+
+-- S5.2: one that was let in
+abbrev pub stepped_of : Run → Asked → Stepped
+stepped_of run a = put_back run (decide_of run (Ok a))
 
 -- S5.2: a step of an undamaged run
 unfoldable pub go_of : Run → Step → Stepped

@@ -18,6 +18,7 @@ pub struct Started {
 }
 
 impl Run {
+    #[tactic(auto, unfolding(crate::specs::Start::fresh_run))]
     fn fresh(plan: Plan) -> Run
         ensures { result ≡ fresh_run plan }
     {

@@ -1,5 +1,5 @@
 // What a step asks of the whole run, and what it sees of a cabinet.
-ghost use Rattle.std.specs.Prelude.{◌≡◌, ◌≤◌, ◌<◌, ◌×◌, IfSome, IfNone};
+ghost use Rattle.std.specs.Prelude.{◌≡◌, ◌≤◌, ◌<◌, IfSome, IfNone};
 ghost use Rattle.limits.specs.Limits.{most_slots};
 ghost use Rattle.types.specs.Parts.{sight_of};
 ghost use Rattle.run.specs.Gather.{is_empty, first_from, others_from};
@@ -20,26 +20,19 @@ impl Run {
         ensures free { IfSome result (λ j. (first_from 0 self.now.slots ≡ j) × (j < most_slots)) }
         ensures full { IfNone result (most_slots ≤ first_from 0 self.now.slots) }
     {
-        let mut j = 0u8;
-        for t in &self.slots {
-            if is_empty(t) {
-                return Some(j);
-            }
-            j += 1;
-        }
-        None
+        let j = self.slots.iter().position(|t| is_empty(t))?;
+        Some(j as u8)
     }
 
     pub fn others_marked(&self, p: u8) -> u8
         ensures { result ≡ others_from p 0 self.now.cabinets }
     {
-        let mut n = 0;
-        for (i, k) in self.cabinets.iter().enumerate() {
-            if i != p as usize && k.marked {
-                n += 1;
-            }
-        }
-        n
+        let others = self
+            .cabinets
+            .iter()
+            .enumerate()
+            .filter(|(i, k)| *i != p as usize && k.marked);
+        others.count() as u8
     }
 }
 

@@ -15,7 +15,7 @@ impl Run {
     {
         is_ruled(self.plan)
             && self.steps <= MOST_STEPS
-            && clients_sound(self.plan, self.steps, &self.clients)
+            && clients_sound(&self.plan, self.steps, &self.clients)
             && slots_sound(self.plan.n, self.steps, &self.slots)
     }
 
@@ -23,6 +23,6 @@ impl Run {
     pub fn undamaged(&self) -> bool
         ensures { result ≡ undamaged self.now }
     {
-        self.rest_sound() && cabinets_sound(self.plan, self.steps, &self.cabinets)
+        self.rest_sound() && cabinets_sound(&self.plan, self.steps, &self.cabinets)
     }
 }
