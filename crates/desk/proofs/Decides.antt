@@ -1,10 +1,9 @@
 -- Each public contract decides, and it asks nothing of its caller: any two outcomes that it allows for the same run, table and step agree on the
 -- answer, on every part of the next run and on every record of the table at exit, and what it requires always holds (`emp`). The entrance
 -- is cited from where the checker reads its contract: `step_lent_says` holds the contract that the checker reads in src/ to the
--- fact stated here, and a weaker contract is refused there; `step_lent_any` refuses one that asks for something. `lend` decides where what is
--- done with the run does. Assumes nothing.
+-- fact stated here, and a weaker contract is refused there; `step_lent_any` refuses one that asks for something. Assumes nothing.
 use Prim.Native.Nat.{ℕ, min}
-use mathlib.Core.Path.{◌≡◌, refl, sym, ap, ◌∙◌}
+use mathlib.Core.Path.{◌≡◌, refl, sym, ◌∙◌}
 use lib.ListN.{length, take, drop}
 use mathlib.Core.List.{List, ◌++◌}
 use seplogic.Ra.Ura.{Ura}
@@ -15,9 +14,11 @@ use types.Logic.{Logic}
 use contract.Monad.{Fun, fact}
 use Rattle.limits.specs.Limits.{most_cabinets}
 use Rattle.desk.specs.Names.{Cabinet, Lent, Local, Run, Served, Step}
-use Rattle.desk.specs.Desk.{with_cabinets, nine_of, given_back, lent_of, table_of, local_of}
+use Rattle.desk.specs.Desk.{lent_of, table_of, local_of}
 use Rattle.desk.specs.contracts.entrance.step_lent as step-lent
 use Rattle.desk.proofs.LendLaws.{local_capped}
+use Rattle.desk.proofs.entrance.lend.Reads as lend
+use Rattle.desk.proofs.entrance.give_back.Reads as give-back
 
 -- what the contract says of the result r and the table at exit
 abbrev pub LentPost : Run → List Cabinet → Step → Served → List Cabinet → Type 0
@@ -50,15 +51,17 @@ pub step_local_capped : (run : Run) (array : List Cabinet) (len : ℕ) (s : Step
     → local_of run array (min len most_cabinets) s ≡ local_of run array len s
 step_local_capped run array len s nine = local_capped len array nine run s
 
--- what `lend` says of what was done, the result, the run and the table at exit
-abbrev pub LendPost : {R : Type 0} → (Run → R → Run → Type 0) → Run → List Cabinet → R → Run → List Cabinet → Type 0
-LendPost act run table r next after =
-    (view : Run) × act (with_cabinets run (nine_of table)) r view × (next ≡ with_cabinets view run.cabinets) × (after ≡ given_back view.cabinets table)
+-- ---- what a list over a lent table uses too
 
-pub lend_decides : {R : Type 0} (act : Run → R → Run → Type 0) (run : Run) (table : List Cabinet)
-    → ((r r' : R) (view view' : Run) → act (with_cabinets run (nine_of table)) r view → act (with_cabinets run (nine_of table)) r' view' → (r ≡ r') × (view ≡ view'))
-    → (r r' : R) (next next' : Run) (after after' : List Cabinet) → LendPost act run table r next after → LendPost act run table r' next' after'
-    → (r ≡ r') × (next ≡ next') × (after ≡ after')
-lend_decides act run table one r r' next next' after after' p q =
-    let e = one r r' p.0 q.0 p.1 q.1 in
-    (e.0, p.2 ∙ ap (λ (v : Run). with_cabinets v run.cabinets) e.1 ∙ sym q.2, p.3 ∙ ap (λ (v : Run). given_back v.cabinets table) e.1 ∙ sym q.3)
+pub lend_decides : (κs : _) (a : _) (x y : List Cabinet) (s s' : _) → lend.Post κs a x s → lend.Post κs a y s' → (x ≡ y) × (s.0.now ≡ s'.0.now)
+lend_decides κs a x y s s' p q = (p.0 ∙ sym q.0, p.1 ∙ sym q.1)
+
+pub lend_any : (κs : _) (a : _) → lend.Pre κs a
+lend_any κs a = tt
+
+pub give_back_decides : (κs : _) (a : _) (x y : _) (s s' : _) → give-back.Post κs a x s → give-back.Post κs a y s'
+    → (s.0.now ≡ s'.0.now) × (s.1.0.now ≡ s'.1.0.now)
+give_back_decides κs a x y s s' p q = (p.1 ∙ sym q.1, p.0 ∙ sym q.0)
+
+pub give_back_any : (κs : _) (a : _) → give-back.Pre κs a
+give_back_any κs a = tt

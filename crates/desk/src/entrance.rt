@@ -1,6 +1,5 @@
 // The entrance over a lent table. The lent records stand in the run while it takes its step, and its own are put aside.
 ghost use Rattle.std.specs.Prelude.{◌≡◌};
-ghost use Rattle.std.specs.Fn.{FnOnceReturnsAtMut};
 ghost use Rattle.desk.specs.Names.{Run};
 ghost use Rattle.desk.specs.Desk.{with_cabinets, nine_of, given_back, lent_of, table_of};
 
@@ -10,19 +9,29 @@ use limits::MOST_CABINETS;
 use run::Run;
 use types::Step;
 
-// What is done with the run while it has the lent records, with fresh cabinets past them. Of a table of more than nine the first nine are lent.
-pub fn lend<R, F: FnOnce(&mut Run) -> R>(run: &mut Run, table: &mut [Cabinet], act: F) -> R
-    requires { F.IsAlwaysCallable act }
-    ensures { (view : Run) × FnOnceReturnsAtMut F.FnOnce act (with_cabinets run.old (nine_of table.old)) result view × (run.new ≡ with_cabinets view run.old.cabinets) × (table.new ≡ given_back view.cabinets table.old) }
+// The run gets the lent records, with fresh cabinets past them, and its own come back, to be kept for `give_back`. Of a table of more than nine
+// the first nine are lent.
+#[tactic(auto, using(crate::proofs::TableLaws::nine_is), unfolding(crate::specs::Desk::with_cabinets))]
+pub fn lend(run: &mut Run, table: &[Cabinet]) -> [Cabinet; MOST_CABINETS]
+    ensures own { result ≡ run.old.cabinets }
+    ensures lent { run.new ≡ with_cabinets run.old (nine_of table.now) }
 {
     let own = run.cabinets;
     let few = table.len().min(MOST_CABINETS);
     run.cabinets = [Cabinet::fresh(); MOST_CABINETS];
     run.cabinets[..few].copy_from_slice(&table[..few]);
-    let result = act(run);
+    own
+}
+
+// The table gets the records that were lent, as they are after whatever the run did, and the run its own.
+#[tactic(auto, using(crate::proofs::TableLaws::back_is), unfolding(crate::specs::Desk::with_cabinets))]
+pub fn give_back(run: &mut Run, table: &mut [Cabinet], own: &[Cabinet; MOST_CABINETS])
+    ensures lent { table.new ≡ given_back run.old.cabinets table.old }
+    ensures own { run.new ≡ with_cabinets run.old own.now }
+{
+    let few = table.len().min(MOST_CABINETS);
     table[..few].copy_from_slice(&run.cabinets[..few]);
-    run.cabinets = own;
-    result
+    run.cabinets = *own;
 }
 
 // S14.1, S20.8: a step over the records that the desk lends.
@@ -32,5 +41,8 @@ pub fn step_lent(run: &mut Run, table: &mut [Cabinet], s: Step) -> Lent
     if table.len() != run.plan.n as usize {
         return Err(WrongLength);
     }
-    Ok(lend(run, table, |view| view.take(s)))
+    let own = lend(run, table);
+    let answer = run.take(s);
+    give_back(run, table, &own);
+    Ok(answer)
 }

@@ -7,7 +7,7 @@ ghost use Rattle.std.specs.Prelude.{◌≡◌};
 ghost use Rattle.desk.specs.Names.{Err};
 ghost use Rattle.desk.specs.Desk.{lent_number};
 
-pub use entrance::{lend, step_lent};
+pub use entrance::{give_back, lend, step_lent};
 use types::Answer;
 
 // Beside the answers of a step on a run of its own: the table has not n records.
