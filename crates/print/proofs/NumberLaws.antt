@@ -1,4 +1,4 @@
--- Laws of a number's digits: they can be written two, four and eight at a time. Assumes nothing.
+-- Laws of a number's digits: they can be written two and four at a time. Assumes nothing.
 use Prim.Native.Nat.{ℕ, zero, suc, ◌*◌, ◌/◌, ◌%◌, ◌^◌, ◌<◌, ◌≤◌}
 use native.Mathlib.Omega.{arith}
 use native.Mathlib.Nat.{pow-suc, div-lt_iff_lt-mul}
@@ -6,8 +6,9 @@ use mathlib.Core.Bool.{Bool, true, false, cond}
 use mathlib.Core.List.{List, [], ◌∷◌, ◌++◌, append_assoc}
 use mathlib.Core.Path.{◌≡◌, refl, sym, ◌∙◌, ap}
 use lib.Dec.{ltb}
-use borrow.Author.Tests.{lt-ltb, le-ltb}
-use Rattle.print.specs.Numbers.{digit, digits_by, decimal, pair, four, eight}
+use lib.ListN.{length, length-append}
+use borrow.Author.Tests.{lt-ltb, le-ltb, ltb-false}
+use Rattle.print.specs.Numbers.{digit, digits_by, decimal, pair, four}
 
 pub tenth : (n m : ℕ) → n < m * 10 → n / 10 < m
 tenth n m h = let p : 0 < 10 = omega arith in (div-lt_iff_lt-mul {k = 10} {x = n} {y = m} p).1 h
@@ -42,7 +43,7 @@ unfolding decimal
 decimal_last n h k =
     ap (λ (l : List ℕ). l ++ (digit (n % 10) ∷ [])) (sym (enough 18 (n / 10) (tenth n (10 ^ 19) k))) ∙ digits_more 19 n h
 
--- two, four and eight digits at a time
+-- two and four digits at a time
 
 decimal_then_pair : (n : ℕ) → 100 ≤ n → n < 10 ^ 20 → decimal (n / 100) ++ pair (n % 100) ≡ decimal n
 decimal_then_pair n h k =
@@ -69,11 +70,20 @@ decimal_then_four n h k =
     let c : n % 100 ≡ n % 10000 % 100 = omega arith in
     rw (← decimal_then_pair n (omega arith) k, ← decimal_then_pair (n / 100) (omega arith) (omega arith), ← a, ← b, ← c) (simp append_assoc)
 
-pub decimal_then_eight : (n : ℕ) → 100000000 ≤ n → n < 10 ^ 20 → decimal (n / 100000000) ++ eight (n % 100000000) ≡ decimal n
-unfolding eight
-decimal_then_eight n h k =
-    let a : n / 10000 / 10000 ≡ n / 100000000 = omega arith in
-    let b : n / 10000 % 10000 ≡ n % 100000000 / 10000 = omega arith in
-    let c : n % 10000 ≡ n % 100000000 % 10000 = omega arith in
-    rw (← decimal_then_four n (omega arith) k, ← decimal_then_four (n / 10000) (omega arith) (omega arith), ← a, ← b, ← c)
-    (simp append_assoc)
+-- how many digits there are
+
+length_by : (m k n : ℕ) → n < 10 ^ suc k → length (digits_by m n) ≤ suc k
+unfolding digits_by
+length_by zero k n h = omega arith
+length_by (suc m) k n h = go k h (length_by m)
+  where
+    go : (k : ℕ) → n < 10 ^ suc k → ((j x : ℕ) → x < 10 ^ suc j → length (digits_by m x) ≤ suc j)
+        → length (cond (ltb n 10) (digit n ∷ []) (digits_by m (n / 10) ++ (digit (n % 10) ∷ []))) ≤ suc k
+    go zero h w = let e : n < 10 = omega (arith, pow-suc 10 0) in rw (lt-ltb _ _ e) (omega arith)
+    go (suc k) h w =
+        let p : length (digits_by m (n / 10)) ≤ suc k = w k (n / 10) (tenth n (10 ^ suc k) (omega (arith, pow-suc 10 (suc k)))) in
+        grind (arith, length-append)
+
+pub length_decimal : (k n : ℕ) → n < 10 ^ suc k → length (decimal n) ≤ suc k
+unfolding decimal
+length_decimal k n h = length_by 20 k n h

@@ -4,10 +4,10 @@ use native.Mathlib.Omega.{arith}
 use mathlib.Core.List.{List, ◌∷◌, ◌++◌, append_assoc}
 use mathlib.Core.Path.{◌≡◌, refl, ap}
 use Rattle.types.specs.Answers.{refusal_number}
-use Rattle.print.specs.Names.{Answer, Outcome, Plan, Planned, Refusal}
+use Rattle.print.specs.Names.{Err, Ok, Outcome, Plan, Refusal, Unplanned}
 use Rattle.plan.specs.Rule.{answer_of}
-use Rattle.print.specs.Numbers.{decimal}
-use Rattle.print.specs.Rows.{fields, row_text, none_shown, outcome_shown, step_text, plan_text, refused, refusal_text, no_header, no_header_text, accepted_fields}
+use Rattle.print.specs.Numbers.{decimal, digits_by}
+use Rattle.print.specs.Rows.{fields, row_text, none_shown, outcome_shown, step_text, plan_text, refused, refusal_text, no_header_text, accepted_fields}
 use Rattle.types.specs.Texts.{bytes}
 use Rattle.print.specs.Words.{profile_word, outcome_word}
 use Rattle.print.proofs.NumberLaws.{decimal_one}
@@ -38,13 +38,10 @@ pub step_accepted : (row : ℕ) (o : Outcome)
 unfolding step_text row_text
 step_accepted row o = ap (λ (l : List ℕ). decimal row ++ l) (accepted (outcome_word o ∷ outcome_shown o))
 
-pub plan_out_of_range : (row : ℕ) → decimal row ++ fields (refused (answer_of (Err Unplanned.OutOfRange))) ≡ plan_text row (Err Unplanned.OutOfRange)
+pub plan_refused : (row n : ℕ) (why : Unplanned) → n ≡ answer_of (Err why) → decimal row ++ fields (refused n) ≡ plan_text row (Err why)
 unfolding plan_text row_text
-plan_out_of_range row = refl
-
-pub plan_too_small : (row : ℕ) → decimal row ++ fields (refused (answer_of (Err Unplanned.TooSmall))) ≡ plan_text row (Err Unplanned.TooSmall)
-unfolding plan_text row_text
-plan_too_small row = refl
+plan_refused row n Unplanned.OutOfRange e = ap (λ (m : ℕ). decimal row ++ fields (refused m)) e
+plan_refused row n Unplanned.TooSmall e = ap (λ (m : ℕ). decimal row ++ fields (refused m)) e
 
 pub plan_accepted : (row : ℕ) (p : Plan)
     → decimal row ++ accepted_fields (profile_word p.profile ∷ none_shown) ≡ plan_text row (Ok p)
@@ -55,6 +52,6 @@ pub another_form : (row n : ℕ) → n ≡ refusal_number Refusal.Range → deci
 unfolding refusal_text row_text
 another_form row n e = ap (λ (m : ℕ). decimal row ++ fields (refused m)) e
 
-pub no_header_said : decimal 0 ++ fields (refused no_header) ≡ no_header_text
-unfolding no_header_text row_text
+pub no_header_said : bytes "0,13,refused,,,,\n" ≡ no_header_text
+unfolding no_header_text row_text decimal digits_by
 no_header_said = refl

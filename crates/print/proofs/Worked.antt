@@ -2,7 +2,7 @@
 use mathlib.Core.List.{◌++◌}
 use mathlib.Core.Path.{◌≡◌, refl}
 use lib.ListN.{length}
-use Rattle.print.specs.Names.{Answer, Ending, Outcome, Reading, Refusal}
+use Rattle.print.specs.Names.{Ending, Err, Ok, Outcome, Reading, Refusal}
 use Rattle.plan.specs.Rule.{in_range, chosen, plan_of}
 use Rattle.print.specs.Numbers.{digits_by, decimal}
 use Rattle.print.specs.Rows.{row_text, step_text, plan_text, refusal_text, no_header_text, head_text, room}
