@@ -1,4 +1,4 @@
--- Laws of bytes put into a buffer: one byte, a copy's turns, and one text behind another. Assumes nothing.
+-- Laws of bytes put into a buffer: one byte, and one text behind another. Assumes nothing.
 use Prim.Native.Nat.{ℕ, ◌+◌, ◌<◌, ◌≤◌}
 use native.Mathlib.Numerals.{add-one}
 use native.Mathlib.Omega.{arith}
@@ -45,12 +45,3 @@ same d at q p = rw (← q) p
 -- what is written decides the buffer and the place
 pub agree : {e e' : List ℕ} {r r' : ℕ} (d : List ℕ) (at : ℕ) (s : List ℕ) → Wrote d at s e r → Wrote d at s e' r' → (r ≡ r') × (e ≡ e')
 agree d at s p q = (p.1 ∙ sym q.1, p.0 ∙ sym q.0)
-
--- a turn of a copy, and its end
-pub copy_one : (d e : List ℕ) (at : ℕ) (s : List ℕ) (i : ℕ)
-    → e ≡ paste d at s i → at + i < length d → i < length s → set e (at + i) (get_or s i 0) ≡ paste d at s (i + 1)
-copy_one d e at s i p h k = rw (p, add-one) (paste-suc d at s i 0 h k)
-
-pub copy_all : (d : List ℕ) (at : ℕ) (s : List ℕ) (n : ℕ) → n ≡ length s → paste d at s n ≡ put d at s
-unfolding put
-copy_all d at s n e = rw (e, take-length)

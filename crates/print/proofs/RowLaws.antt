@@ -24,33 +24,15 @@ pub three_fields : (a b c : List ℕ) (fs : List (List ℕ))
     → (bytes "," ++ a) ++ (bytes "," ++ b) ++ (bytes "," ++ c) ++ fields fs ≡ fields (a ∷ b ∷ c ∷ fs)
 three_fields a b c fs = regroup (bytes "," ++ a) (bytes "," ++ b) (bytes "," ++ c) (fields fs)
 
-accepted : (fs : List (List ℕ)) → accepted_fields fs ≡ fields (decimal 0 ∷ fs)
-accepted fs = let h : 0 < 10 = omega arith in ap (λ (z : List ℕ). bytes "," ++ z ++ fields fs) (decimal_one 0 h)
-
 -- the row number and then the rest
 
-pub step_refused : (row n : ℕ) (w : Refusal) → n ≡ refusal_number w → decimal row ++ fields (refused n) ≡ step_text row (Err w)
-unfolding step_text row_text
-step_refused row n w e = ap (λ (m : ℕ). decimal row ++ fields (refused m)) e
+pub row_accepted : (row : ℕ) (fs : List (List ℕ)) → decimal row ++ accepted_fields fs ≡ row_text row (decimal 0 ∷ fs)
+unfolding row_text
+row_accepted row fs = let h : 0 < 10 = omega arith in ap (λ (z : List ℕ). decimal row ++ (bytes "," ++ z ++ fields fs)) (decimal_one 0 h)
 
-pub step_accepted : (row : ℕ) (o : Outcome)
-    → decimal row ++ accepted_fields (outcome_word o ∷ outcome_shown o) ≡ step_text row (Ok o)
-unfolding step_text row_text
-step_accepted row o = ap (λ (l : List ℕ). decimal row ++ l) (accepted (outcome_word o ∷ outcome_shown o))
-
-pub plan_refused : (row n : ℕ) (why : Unplanned) → n ≡ answer_of (Err why) → decimal row ++ fields (refused n) ≡ plan_text row (Err why)
-unfolding plan_text row_text
-plan_refused row n Unplanned.OutOfRange e = ap (λ (m : ℕ). decimal row ++ fields (refused m)) e
-plan_refused row n Unplanned.TooSmall e = ap (λ (m : ℕ). decimal row ++ fields (refused m)) e
-
-pub plan_accepted : (row : ℕ) (p : Plan)
-    → decimal row ++ accepted_fields (profile_word p.profile ∷ none_shown) ≡ plan_text row (Ok p)
-unfolding plan_text row_text
-plan_accepted row p = ap (λ (l : List ℕ). decimal row ++ l) (accepted (profile_word p.profile ∷ none_shown))
-
-pub another_form : (row n : ℕ) → n ≡ refusal_number Refusal.Range → decimal row ++ fields (refused n) ≡ refusal_text row
-unfolding refusal_text row_text
-another_form row n e = ap (λ (m : ℕ). decimal row ++ fields (refused m)) e
+pub row_refused : (row n m : ℕ) → n ≡ m → decimal row ++ fields (refused n) ≡ row_text row (refused m)
+unfolding row_text
+row_refused row n m e = ap (λ (k : ℕ). decimal row ++ fields (refused k)) e
 
 pub no_header_said : bytes "0,13,refused,,,,\n" ≡ no_header_text
 unfolding no_header_text row_text decimal digits_by

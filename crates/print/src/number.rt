@@ -61,7 +61,7 @@ pub fn put_number(buf: &mut [u8], at: usize, n: u64) -> usize
     put_four(buf, i, (n % 10000) as u16)
 }
 
-// A field that is a byte's number, of at most three digits, with the comma in front of it. Behind it stands a byte more.
+// A field that is a number of at most three digits, with the comma in front of it. Each row has at least one byte more behind it.
 pub fn put_short_field(buf: &mut [u8], at: usize, n: u8) -> usize
     requires { at + 5 ≤ length buf.old }
     ensures wrote { Wrote buf.old at (bytes "," ++ decimal n) buf.new result }

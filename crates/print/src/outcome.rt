@@ -61,6 +61,7 @@ fn put_ending(buf: &mut [u8], at: usize, ending: Ending) -> usize
     }
 }
 
+#[inline(always)]
 pub fn put_outcome(buf: &mut [u8], at: usize, outcome: Outcome) -> usize
     requires { at + 49 ≤ length buf.old }
     ensures wrote { Wrote buf.old at (accepted_fields (outcome_word outcome ∷ outcome_shown outcome)) buf.new result }

@@ -30,6 +30,8 @@ fn put_profile(buf: &mut [u8], at: usize, profile: Profile) -> usize
     }
 }
 
+// Inlined, the row of an outcome that the caller knows is written with no jump by the outcome.
+#[inline(always)]
 pub fn put_step(buf: &mut [u8], at: usize, row: u64, answer: Answer) -> usize
     requires { at + room ≤ length buf.old }
     ensures wrote { Wrote buf.old at (step_text row answer) buf.new result }
