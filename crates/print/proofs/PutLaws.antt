@@ -5,8 +5,8 @@ use native.Mathlib.Omega.{arith}
 use native.Mathlib.Nat.{add_assoc, add-zero}
 use mathlib.Core.List.{List, [], ◌∷◌, ◌++◌, append_assoc, append-nil}
 use mathlib.Core.Path.{◌≡◌, sym, ◌∙◌, ap}
-use lib.ListN.{length, get_or, set, take, drop, length-append, length-drop, take-append-drop}
-use lib.Seq.{take-length, length-take-le, set_split, take_at, drop-append-add, drop-drop, paste, paste-suc}
+use lib.ListN.{length, set, take, drop, length-append, length-drop, take-append-drop}
+use lib.Seq.{length-take-le, set_split, take_at, drop-append-add, drop-drop}
 use Rattle.print.specs.Put.{put, Wrote}
 
 -- for a caller that puts row behind row: where it begins, and the buffer's length

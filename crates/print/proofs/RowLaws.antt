@@ -3,13 +3,9 @@ use Prim.Native.Nat.{ℕ, ◌<◌}
 use native.Mathlib.Omega.{arith}
 use mathlib.Core.List.{List, ◌∷◌, ◌++◌, append_assoc}
 use mathlib.Core.Path.{◌≡◌, refl, ap}
-use Rattle.types.specs.Answers.{refusal_number}
-use Rattle.print.specs.Names.{Err, Ok, Outcome, Plan, Refusal, Unplanned}
-use Rattle.plan.specs.Rule.{answer_of}
 use Rattle.print.specs.Numbers.{decimal, digits_by}
-use Rattle.print.specs.Rows.{fields, row_text, none_shown, outcome_shown, step_text, plan_text, refused, refusal_text, no_header_text, accepted_fields}
+use Rattle.print.specs.Rows.{fields, row_text, refused, no_header_text, accepted_fields}
 use Rattle.types.specs.Texts.{bytes}
-use Rattle.print.specs.Words.{profile_word, outcome_word}
 use Rattle.print.proofs.NumberLaws.{decimal_one}
 
 -- fields one after another

@@ -13,6 +13,8 @@ unfolding put
 returns c =
     let a = c.args in
     let end = a.at + length a.s.now in
-    let behind = Post-is a.at end a.buf.now (omega arith) in
-    ((λ i. take a.at a.buf.now ++ (c.copy_from_slice.ensures.after i ++ behind i))
-    ∙ sym (append_assoc (take a.at a.buf.now) a.s.now (drop end a.buf.now)), refl)
+    let behind = Post-is a.at end a.buf.now (omega arith) in (
+      (λ i. take a.at a.buf.now ++ (c.copy_from_slice.ensures.after i ++ behind i))
+          ∙ sym (append_assoc (take a.at a.buf.now) a.s.now (drop end a.buf.now)),
+      refl,
+    )
