@@ -6,7 +6,8 @@ use mathlib.Core.Logic.{◌⊎◌, inl, inr, ⊎_elim}
 use native.Mathlib.Omega.{arith}
 use lib.Dec.{leb}
 use borrow.Author.Tests.{leb-true, leb-false, le-leb, not-true}
-use Rattle.plans.specs.Names.{Plan, Planned}
+use Rattle.plan.specs.declared.Unplanned.{Unplanned}
+use Rattle.plans.specs.Names.{Err, Ok, Plan}
 use Rattle.plan.specs.Rule.{in_range, chosen, plan_of, forgetful_plan, store_plan}
 use Rattle.plan.proofs.RuleLaws.{InRange, ranges, ranged, both, numbers}
 use Rattle.plans.specs.Worth.{affords, worth}
