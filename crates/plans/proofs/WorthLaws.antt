@@ -1,7 +1,7 @@
 -- What `worth` promises: among all plans of its line that need no more stores, a plan that is worth choosing has none above it. Assumes nothing.
 use Prim.Native.Nat.{ℕ, ◌+◌, ◌*◌, ◌≤◌}
 use mathlib.Core.Path.{◌≡◌}
-use mathlib.Core.Bool.{Bool, true, false}
+use mathlib.Core.Bool.{true}
 use mathlib.Core.Logic.{◌⊎◌}
 use native.Mathlib.Omega.{arith}
 use Rattle.std.proofs.lemmas.Bool.Decides.{leb_tells}
@@ -9,9 +9,6 @@ use Rattle.plans.specs.Names.{Ok, Plan}
 use Rattle.plan.specs.Rule.{chosen, plan_of}
 use Rattle.plan.proofs.RuleLaws.{InRange, ranges, ranged, numbers}
 use Rattle.plans.specs.Worth.{affords, worth}
-
-clash : {A : Type 0} {t : Bool} → t ≡ false → t ≡ true → A
-clash e f = absurd (let z : ◌≡◌ {A = ℕ} 0 1 = cc in omega arith)
 
 module _ (n k r b : ℕ) where
   -- the two ways to have a plan with at most s stores
