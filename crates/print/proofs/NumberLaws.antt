@@ -18,13 +18,7 @@ tenth n m h = let p : 0 < 10 = omega arith in (div-lt_iff_lt-mul {k = 10} {x = n
 enough : (k n : ℕ) → n < 10 ^ suc k → digits_by (suc k) n ≡ digits_by (suc (suc k)) n
 unfolding digits_by
 enough zero n h = let e : n < 10 = omega (arith, pow-suc 10 0) in rw (lt-ltb _ _ e)
-enough (suc k) n h = go (ltb n 10) (enough k (n / 10) (tenth n (10 ^ suc k) (omega (arith, pow-suc 10 (suc k)))))
-  where
-    go : (t : Bool) → digits_by (suc k) (n / 10) ≡ digits_by (suc (suc k)) (n / 10)
-        → cond t (digit n ∷ []) (digits_by (suc k) (n / 10) ++ (digit (n % 10) ∷ [])) ≡ cond t (digit n ∷ [])
-        (digits_by (suc (suc k)) (n / 10) ++ (digit (n % 10) ∷ []))
-    go true e = refl
-    go false e = rw e
+enough (suc k) n h = grind (arith, pow-suc 10 (suc k), enough k (n / 10))
 
 digits_one : (k n : ℕ) → n < 10 → digit n ∷ [] ≡ digits_by (suc k) n
 unfolding digits_by
@@ -47,42 +41,30 @@ decimal_last n h k =
 
 decimal_then_pair : (n : ℕ) → 100 ≤ n → n < 10 ^ 20 → decimal (n / 100) ++ pair (n % 100) ≡ decimal n
 decimal_then_pair n h k =
-    let a : n / 10 / 10 ≡ n / 100 = omega arith in
-    let b : n / 10 % 10 ≡ n % 100 / 10 = omega arith in
-    let c : n % 10 ≡ n % 100 % 10 = omega arith in
-    rw (← decimal_last n (omega arith) k, ← decimal_last (n / 10) (omega arith) (omega arith), ← a, ← b, ← c) (simp append_assoc)
+    grind (arith, decimal_last n, decimal_last (n / 10), append_assoc)
 
 pub decimal_two : (n : ℕ) → 10 ≤ n → n < 100 → pair n ≡ decimal n
-decimal_two n h k = rw (← decimal_last n h (omega arith), ← decimal_one (n / 10) (omega arith))
+decimal_two n h k = grind (arith, decimal_last n, decimal_one (n / 10))
 
 pub decimal_three : (n : ℕ) → 100 ≤ n → n < 1000 → (digit (n / 100) ∷ []) ++ pair (n % 100) ≡ decimal n
-decimal_three n h k = rw (← decimal_then_pair n h (omega arith), ← decimal_one (n / 100) (omega arith))
+decimal_three n h k = grind (arith, decimal_then_pair n, decimal_one (n / 100))
 
 pub decimal_four : (n : ℕ) → 1000 ≤ n → n < 10000 → four n ≡ decimal n
 unfolding four
-decimal_four n h k = rw (← decimal_then_pair n (omega arith) (omega arith), ← decimal_two (n / 100) (omega arith) (omega arith))
+decimal_four n h k = grind (arith, decimal_then_pair n, decimal_two (n / 100))
 
 pub decimal_then_four : (n : ℕ) → 10000 ≤ n → n < 10 ^ 20 → decimal (n / 10000) ++ four (n % 10000) ≡ decimal n
 unfolding four
 decimal_then_four n h k =
-    let a : n / 100 / 100 ≡ n / 10000 = omega arith in
-    let b : n / 100 % 100 ≡ n % 10000 / 100 = omega arith in
-    let c : n % 100 ≡ n % 10000 % 100 = omega arith in
-    rw (← decimal_then_pair n (omega arith) k, ← decimal_then_pair (n / 100) (omega arith) (omega arith), ← a, ← b, ← c) (simp append_assoc)
+    grind (arith, decimal_then_pair n, decimal_then_pair (n / 100), append_assoc)
 
 -- how many digits there are
 
 length_by : (m k n : ℕ) → n < 10 ^ suc k → length (digits_by m n) ≤ suc k
 unfolding digits_by
 length_by zero k n h = omega arith
-length_by (suc m) k n h = go k h (length_by m)
-  where
-    go : (k : ℕ) → n < 10 ^ suc k → ((j x : ℕ) → x < 10 ^ suc j → length (digits_by m x) ≤ suc j)
-        → length (cond (ltb n 10) (digit n ∷ []) (digits_by m (n / 10) ++ (digit (n % 10) ∷ []))) ≤ suc k
-    go zero h w = let e : n < 10 = omega (arith, pow-suc 10 0) in rw (lt-ltb _ _ e) (omega arith)
-    go (suc k) h w =
-        let p : length (digits_by m (n / 10)) ≤ suc k = w k (n / 10) (tenth n (10 ^ suc k) (omega (arith, pow-suc 10 (suc k)))) in
-        grind (arith, length-append)
+length_by (suc m) zero n h = let e : n < 10 = omega (arith, pow-suc 10 0) in rw (lt-ltb _ _ e) (omega arith)
+length_by (suc m) (suc k) n h = grind (arith, length-append, pow-suc 10 (suc k), length_by m k (n / 10))
 
 pub length_decimal : (k n : ℕ) → n < 10 ^ suc k → length (decimal n) ≤ suc k
 unfolding decimal
