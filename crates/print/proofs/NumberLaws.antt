@@ -1,23 +1,18 @@
 -- Laws of a number's digits: they can be written two and four at a time. Assumes nothing.
-use Prim.Native.Nat.{ℕ, zero, suc, ◌*◌, ◌/◌, ◌%◌, ◌^◌, ◌<◌, ◌≤◌}
+use Prim.Native.Nat.{ℕ, zero, suc, ◌/◌, ◌%◌, ◌^◌, ◌<◌, ◌≤◌}
 use native.Mathlib.Omega.{arith}
-use native.Mathlib.Nat.{pow-suc, div-lt_iff_lt-mul}
-use mathlib.Core.Bool.{Bool, true, false, cond}
-use mathlib.Core.List.{List, [], ◌∷◌, ◌++◌, append_assoc}
-use mathlib.Core.Path.{◌≡◌, refl, sym, ◌∙◌, ap}
-use lib.Dec.{ltb}
+use native.Mathlib.Nat.{pow-suc}
+use mathlib.Core.List.{[], ◌∷◌, ◌++◌, append_assoc}
+use mathlib.Core.Path.{◌≡◌}
 use lib.ListN.{length, length-append}
 use borrow.Author.Tests.{lt-ltb, le-ltb}
 use Rattle.print.specs.Numbers.{digit, digits_by, decimal, pair, four}
-
-pub tenth : (n m : ℕ) → n < m * 10 → n / 10 < m
-tenth n m h = let p : 0 < 10 = omega arith in (div-lt_iff_lt-mul {k = 10} {x = n} {y = m} p).1 h
 
 -- one digit more is not used
 
 enough : (k n : ℕ) → n < 10 ^ suc k → digits_by (suc k) n ≡ digits_by (suc (suc k)) n
 unfolding digits_by
-enough zero n h = let e : n < 10 = omega (arith, pow-suc 10 0) in rw (lt-ltb _ _ e)
+enough zero n h = grind (arith, pow-suc 10 0)
 enough (suc k) n h = grind (arith, pow-suc 10 (suc k), enough k (n / 10))
 
 digits_one : (k n : ℕ) → n < 10 → digit n ∷ [] ≡ digits_by (suc k) n
@@ -34,8 +29,7 @@ decimal_one n h = digits_one 19 n h
 
 decimal_last : (n : ℕ) → 10 ≤ n → n < 10 ^ 20 → decimal (n / 10) ++ (digit (n % 10) ∷ []) ≡ decimal n
 unfolding decimal
-decimal_last n h k =
-    ap (λ (l : List ℕ). l ++ (digit (n % 10) ∷ [])) (sym (enough 18 (n / 10) (tenth n (10 ^ 19) k))) ∙ digits_more 19 n h
+decimal_last n h k = grind (arith, enough 18 (n / 10), digits_more 19 n)
 
 -- two and four digits at a time
 
@@ -63,7 +57,7 @@ decimal_then_four n h k =
 length_by : (m k n : ℕ) → n < 10 ^ suc k → length (digits_by m n) ≤ suc k
 unfolding digits_by
 length_by zero k n h = omega arith
-length_by (suc m) zero n h = let e : n < 10 = omega (arith, pow-suc 10 0) in rw (lt-ltb _ _ e) (omega arith)
+length_by (suc m) zero n h = grind (arith, pow-suc 10 0)
 length_by (suc m) (suc k) n h = grind (arith, length-append, pow-suc 10 (suc k), length_by m k (n / 10))
 
 pub length_decimal : (k n : ℕ) → n < 10 ^ suc k → length (decimal n) ≤ suc k

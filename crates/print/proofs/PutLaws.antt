@@ -2,10 +2,10 @@
 use Prim.Native.Nat.{ℕ, ◌+◌, ◌<◌, ◌≤◌}
 use native.Mathlib.Numerals.{add-one}
 use native.Mathlib.Omega.{arith}
-use native.Mathlib.Nat.{add_assoc, add-zero}
+use native.Mathlib.Nat.{add-zero}
 use mathlib.Core.List.{List, [], ◌∷◌, ◌++◌, append_assoc, append-nil}
-use mathlib.Core.Path.{◌≡◌, sym, ◌∙◌, ap}
-use lib.ListN.{length, set, take, drop, length-append, length-drop, take-append-drop}
+use mathlib.Core.Path.{◌≡◌, sym, ◌∙◌}
+use lib.ListN.{length, set, take, length-append, length-drop, take-append-drop}
 use lib.Seq.{length-take-le, set_split, take_at, drop-append-add, drop-drop}
 use Rattle.print.specs.Put.{put, Wrote}
 
@@ -25,14 +25,7 @@ put_one d at b h = set_split d at b h ∙ simp (append_assoc, add-one)
 
 put_put : (d : List ℕ) (at : ℕ) (s t : List ℕ) → at ≤ length d → put (put d at s) (at + length s) t ≡ put d at (s ++ t)
 unfolding put
-put_put d at s t h =
-    let k : length (take at d) ≡ at = length-take-le at d h in
-    let n : length (take at d ++ s) ≡ at + length s = length-append (take at d) s ∙ ap (λ (m : ℕ). m + length s) k in
-    let e : drop (at + length s + length t) (take at d ++ s ++ drop (at + length s) d) ≡ drop (at + length s + length t) d =
-    ap (λ (m : ℕ). drop (m + length t) (take at d ++ s ++ drop (at + length s) d)) (sym n)
-    ∙ drop-append-add (take at d ++ s) (drop (at + length s) d) (length t)
-    ∙ drop-drop (length t) (at + length s) d in
-    rw (take_at (take at d ++ s) (drop (at + length s) d) (at + length s) n, e, length-append, append_assoc (take at d) s t, add_assoc)
+put_put d at s t h = grind (arith, length-take-le at d, take_at, drop-append-add, drop-drop, length-append, append_assoc)
 
 -- `s` and then `t` is the two together
 pub after : {e f : List ℕ} {at r q : ℕ} (d s t : List ℕ) → Wrote d at s e r → Wrote e r t f q → at ≤ length d → Wrote d at (s ++ t) f q

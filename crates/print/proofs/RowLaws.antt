@@ -11,14 +11,11 @@ use Rattle.print.proofs.NumberLaws.{decimal_one}
 -- fields one after another
 
 pub field_behind : (w a : List ℕ) (fs : List (List ℕ)) → w ++ (bytes "," ++ a) ++ fields fs ≡ w ++ fields (a ∷ fs)
-field_behind w a fs = append_assoc w (bytes "," ++ a) (fields fs)
-
-regroup : (a b c d : List ℕ) → a ++ b ++ c ++ d ≡ a ++ (b ++ (c ++ d))
-regroup a b c d = simp append_assoc
+field_behind w a fs = grind (arith, append_assoc)
 
 pub three_fields : (a b c : List ℕ) (fs : List (List ℕ))
     → (bytes "," ++ a) ++ (bytes "," ++ b) ++ (bytes "," ++ c) ++ fields fs ≡ fields (a ∷ b ∷ c ∷ fs)
-three_fields a b c fs = regroup (bytes "," ++ a) (bytes "," ++ b) (bytes "," ++ c) (fields fs)
+three_fields a b c fs = grind (arith, append_assoc)
 
 -- the row number and then the rest
 
