@@ -1,4 +1,4 @@
--- Laws of a number's digits: they can be written two and four at a time. Assumes nothing.
+-- Laws of a number's digits: they can be written two and four at a time, and how many there are. Assumes nothing.
 use Prim.Native.Nat.{ℕ, zero, suc, ◌/◌, ◌%◌, ◌^◌, ◌<◌, ◌≤◌}
 use native.Mathlib.Omega.{arith}
 use native.Mathlib.Nat.{pow-suc}
@@ -34,8 +34,7 @@ decimal_last n h k = grind (arith, enough 18 (n / 10), digits_more 19 n)
 -- two and four digits at a time
 
 decimal_then_pair : (n : ℕ) → 100 ≤ n → n < 10 ^ 20 → decimal (n / 100) ++ pair (n % 100) ≡ decimal n
-decimal_then_pair n h k =
-    grind (arith, decimal_last n, decimal_last (n / 10), append_assoc)
+decimal_then_pair n h k = grind (arith, decimal_last n, decimal_last (n / 10), append_assoc)
 
 pub decimal_two : (n : ℕ) → 10 ≤ n → n < 100 → pair n ≡ decimal n
 decimal_two n h k = grind (arith, decimal_last n, decimal_one (n / 10))
@@ -49,8 +48,7 @@ decimal_four n h k = grind (arith, decimal_then_pair n, decimal_two (n / 100))
 
 pub decimal_then_four : (n : ℕ) → 10000 ≤ n → n < 10 ^ 20 → decimal (n / 10000) ++ four (n % 10000) ≡ decimal n
 unfolding four
-decimal_then_four n h k =
-    grind (arith, decimal_then_pair n, decimal_then_pair (n / 100), append_assoc)
+decimal_then_four n h k = grind (arith, decimal_then_pair n, decimal_then_pair (n / 100), append_assoc)
 
 -- how many digits there are
 

@@ -28,7 +28,8 @@ unfolding put
 put_put d at s t h = grind (arith, length-take-le at d, take_at, drop-append-add, drop-drop, length-append, append_assoc)
 
 -- `s` and then `t` is the two together
-pub after : {e f : List ℕ} {at r q : ℕ} (d s t : List ℕ) → Wrote d at s e r → Wrote e r t f q → at ≤ length d → Wrote d at (s ++ t) f q
+pub after : {e f : List ℕ} {at r q : ℕ} (d s t : List ℕ)
+    → Wrote d at s e r → Wrote e r t f q → at ≤ length d → Wrote d at (s ++ t) f q
 after d s t p u h = (u.0 ∙ rw (p.0, p.1) (put_put d _ s t h), omega (arith, p.1, u.1, length-append s t))
 
 -- the same bytes, written otherwise
@@ -36,5 +37,6 @@ pub same : {e s t : List ℕ} {r : ℕ} (d : List ℕ) (at : ℕ) → s ≡ t �
 same d at q p = rw (← q) p
 
 -- what is written decides the buffer and the place
-pub agree : {e e' : List ℕ} {r r' : ℕ} (d : List ℕ) (at : ℕ) (s : List ℕ) → Wrote d at s e r → Wrote d at s e' r' → (r ≡ r') × (e ≡ e')
+pub agree : {e e' : List ℕ} {r r' : ℕ} (d : List ℕ) (at : ℕ) (s : List ℕ)
+    → Wrote d at s e r → Wrote d at s e' r' → (r ≡ r') × (e ≡ e')
 agree d at s p q = (p.1 ∙ sym q.1, p.0 ∙ sym q.0)

@@ -45,7 +45,8 @@ other_rows = (refl, refl, refl, refl)
 
 -- the room that each function requires is needed: this row takes all of it
 pub longest_row
-    : length (step_text 18446744073709551615 (Ok (Outcome.Ended Ending.Written 255 (record { stamp = record { counter = 18446744073709551615; writer = 255 }; reading = Reading.Open 255 }))))
+    : length (step_text 18446744073709551615 (Ok (Outcome.Ended Ending.Written 255
+    (record { stamp = record { counter = 18446744073709551615; writer = 255 }; reading = Reading.Open 255 }))))
     ≡ room
 unfolding step_text row_text decimal digits_by
 longest_row = refl

@@ -13,5 +13,6 @@ put_four-requires _ c = omega (arith, length_decimal 15 (c.args.n / 10000) (omeg
 
 pub returns : goal.returns
 returns _ c =
-    let wrote = same _ _ (decimal_then_four _ c.if-n-lt10000.false (omega arith)) (after _ _ _ c.put_number-i.ensures.wrote c.put_four.ensures (omega arith)) in
+    let both = after _ _ _ c.put_number-i.ensures.wrote c.put_four.ensures (omega arith) in
+    let wrote = same _ _ (decimal_then_four _ c.if-n-lt10000.false (omega arith)) both in
     record { wrote = wrote; upper_bound = omega (arith, wrote.1, length_decimal 19 c.args.n (omega arith)) }

@@ -12,7 +12,8 @@ returns-then-n-lt100 c = same _ _ (decimal_two _ c.if-n-lt10.false c.if-n-lt100.
 
 pub returns-then-n-lt1000 : goal.returns-then-n-lt1000
 returns-then-n-lt1000 c =
-    same _ _ (decimal_three _ c.if-n-lt100.false c.if-n-lt1000.true) (after _ _ _ c.put_digit-i.ensures c.put_pair-then-n-lt1000.ensures (omega arith))
+    same _ _ (decimal_three _ c.if-n-lt100.false c.if-n-lt1000.true)
+    (after _ _ _ c.put_digit-i.ensures c.put_pair-then-n-lt1000.ensures (omega arith))
 
 pub returns : goal.returns
 returns c = same _ _ (decimal_four _ c.if-n-lt1000.false c.requires.0) c.put_four.ensures
