@@ -6,7 +6,7 @@ use native.Mathlib.Omega.{arith}
 use Rattle.text.proofs.NumberLaws.{field_end, field_comma, field_next, value_low, value_high, value_next, grown, number_not, number_over, number_none, number_one, number_several}
 use Rattle.text.specs.Pieces.{first}
 use Rattle.text.proofs.field.number_at.Goals as goal
-use Rattle.text.proofs.field.number_at.Goals.{else-loop-b-test, then-loop-b-test+in-44, then-n-gt1, else-n-gt1, then-n-gt0, else-n-gt0}
+use Rattle.text.proofs.field.number_at.Goals.{else-loop-b-test, then-loop-b-test+in-44, then-several, else-several, then-n-gt0, else-n-gt0}
 
 pub returns-in_default-clause-value : goal.returns-in_default-clause-value
 returns-in_default-clause-value c =
@@ -48,9 +48,9 @@ returns-clause-value c =
     c.then_some.ensures ∙
     elim c.if-n-gt0.branch [
       | then-n-gt0 w ↦
-          elim c.if-n-gt1.branch [
-            | then-n-gt1 u ↦ number_several _ _ _ loop.few loop.value loop.left no_more _ _ u.if-n-gt1.true u.padded-is w.then_some-is
-            | else-n-gt1 u ↦ number_one _ _ _ loop.few loop.value loop.left no_more _ _ (omega arith) u.padded-is w.then_some-is
+          elim c.if-several.branch [
+            | then-several u ↦ number_several _ _ _ loop.few loop.value loop.left no_more _ _ u.if-several.true u.padded-is w.then_some-is
+            | else-several u ↦ number_one _ _ _ loop.few loop.value loop.left no_more _ _ (omega arith) u.padded-is w.then_some-is
           ]
       | else-n-gt0 w ↦ number_none _ _ _ loop.few loop.value loop.left no_more _ w.if-n-gt0.false w.then_some-is
     ]
