@@ -1,10 +1,6 @@
 -- `row_as` meets its contract. Assumes nothing.
-use mathlib.Core.Path.{sym, ◌∙◌}
-use Rattle.text.proofs.WordLaws.{no_kind}
+use mathlib.Core.Path.{◌∙◌}
 use Rattle.text.proofs.row.row_as.Goals as goal
-
-pub returns-in-NoKind : goal.returns-in-NoKind
-returns-in-NoKind c = rw c.in-NoKind.is (sym (no_kind _))
 
 pub returns-in-Plans : goal.returns-in-Plans
 returns-in-Plans c = c.plan_row.ensures ∙ rw c.in-Plans.is
