@@ -27,4 +27,7 @@ loop-found-preserved c =
     next _ _ _ c.find.ensures _ c.in-Some.is c.loop-found.invariant _ _ _ c.go-answer.ensures c.put_step.ensures.wrote c.put_step.ensures.upper_bound
 
 pub returns : goal.returns
-returns c = taking_end c.args.s.now c.args.at c.args.row c.args.run.now c.args.out.now c.loop-found.went.used c.loop-found.out c.loop-found.went.at c.loop-found.went.row c.loop-found.run c.loop-found.invariant (last _ _ _ c.find.ensures c.in_default.is)
+returns c =
+    let a = c.args in
+    let l = c.loop-found in
+    taking_end a.s.now a.at a.row a.run.now a.out.now l.went.used l.out l.went.at l.went.row l.run l.invariant (last a.s.now l.went.used _ c.find.ensures c.in_default.is)
