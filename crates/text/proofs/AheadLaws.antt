@@ -178,7 +178,7 @@ module _ (k : Single) (s : List ℕ) (f a n : ℕ) (h : head_in kinds s ≡ Some
   told_one : Told (byte_of (first (drop f s))) (drop f s) a n
   told_one = byte_told (drop f s) a n byte_one
 
-  pub one_fits : f + n ≤ length s
+  one_fits : f + n ≤ length s
   one_fits = omega (arith, word_fits s (Kind.WithOne k) f h, told_fits told_one, length-drop f s)
 
   -- the row behind its word and comma
@@ -223,7 +223,7 @@ module _ (k : Double) (s : List ℕ) (f a b n : ℕ) (h : head_in kinds s ≡ So
   told_two : Both byte_of (drop f s) a b n
   told_two = both_bytes (drop f s) a b n bytes_two
 
-  pub two_fits : f + n ≤ length s
+  two_fits : f + n ≤ length s
   two_fits = omega (arith, word_fits s (Kind.WithTwo k) f h, both_fits told_two, length-drop f s)
 
   -- both numbers with the comma between them

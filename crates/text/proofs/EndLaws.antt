@@ -65,14 +65,6 @@ ended_row s e l x h lf bare le xe =
 lead_length : (s : List ℕ) (x : Step) (n : ℕ) (l : Leads s x n) → n ≡ length l.row.line + 1
 lead_length s x n l = omega (arith, l.within, length-take n s, ap length l.row.ends, length-append l.row.line (10 ∷ []))
 
--- the row from i on
-pub led_found : (s : List ℕ) (i : ℕ) (x : Step) (n : ℕ) → i ≤ length s → Leads (from s i) x n → Finds s i (Some (record { step = x; end = i + n }))
-led_found s i x n h f =
-    let g : Leads (drop i s) x n = rw (part_all s i) at f in
-    let e : i + n - i ≡ n = omega arith in
-    let w : n ≤ length (drop i s) = g.within in
-    (omega (arith, lead_length (drop i s) x n g), omega (arith, length-drop i s), rw e g.row)
-
 -- ---- one row only
 
 broken : (b : ℕ) (l : List ℕ) → b ≡ 10 → breaks (b ∷ l) ≡ 0 → ⊥
