@@ -4,8 +4,8 @@ use native.Mathlib.Omega.{arith}
 use mathlib.Core.Bool.{Bool, true, false, cond, ◌&&◌, and-eq-true_iff}
 use mathlib.Core.List.{List, [], ◌∷◌, ◌++◌, append_assoc}
 use mathlib.Core.Path.{◌≡◌, refl, sym, ◌∙◌, ap}
-use lib.ListN.{length, get_or, take, drop, length-append, length-drop, length-take, take-append-drop}
-use lib.Seq.{take_at, drop_at, drop-drop, get_or-append-add}
+use lib.ListN.{length, get_or, take, drop, length-append, length-take, take-append-drop}
+use lib.Seq.{take_at, drop_at, get_or-append-add}
 use lib.Dec.{eqb, leb}
 use borrow.Author.Tests.{leb-true, eqb-true, ne_eqb}
 use Rattle.text.specs.Names.{Double, Head, Kind, Row, Single, Step}

@@ -1,6 +1,5 @@
 -- `one_ahead` meets its contract. Assumes nothing.
 use mathlib.Core.Path.{sym}
-use native.Mathlib.Omega.{arith}
 use Rattle.text.proofs.AheadLaws.{word_fits, one_leads}
 use Rattle.text.proofs.BytesLaws.{begins_by}
 use Rattle.text.proofs.ahead.one_ahead.Goals as goal

@@ -1,6 +1,5 @@
 -- `two_ahead` meets its contract. Assumes nothing.
 use mathlib.Core.Path.{sym}
-use native.Mathlib.Omega.{arith}
 use Rattle.text.proofs.AheadLaws.{word_fits, two_leads}
 use Rattle.text.proofs.BytesLaws.{begins_by}
 use Rattle.text.proofs.ahead.two_ahead.Goals as goal
