@@ -4,8 +4,8 @@ use native.Mathlib.Omega.{arith}
 use mathlib.Core.Bool.{Bool, true, false, cond, ◌&&◌, and-eq-true_iff}
 use mathlib.Core.List.{List, [], ◌∷◌, ◌++◌, append_assoc}
 use mathlib.Core.Path.{◌≡◌, refl, sym, ◌∙◌, ap}
-use lib.ListN.{length, get_or, take, drop, length-append, length-drop, length-take, take-append-drop}
-use lib.Seq.{take_at, drop_at, drop-drop, get_or-append-add}
+use lib.ListN.{length, get_or, take, drop, length-append, length-take, take-append-drop}
+use lib.Seq.{take_at, drop_at, get_or-append-add}
 use lib.Dec.{eqb, leb}
 use borrow.Author.Tests.{leb-true, eqb-true, ne_eqb}
 use Rattle.text.specs.Names.{Double, Head, Kind, Row, Single, Step}
@@ -152,10 +152,10 @@ module _ (s : List ℕ) (h : Head) (e : head_in kinds s ≡ Some h) (q r : List 
 pub word_fits : (s : List ℕ) (k : Kind) (f : ℕ) → head_in kinds s ≡ Some (record { kind = k; end = f }) → f ≤ length s
 word_fits s k f h = head_fits kinds s (record { kind = k; end = f }) h
 
-ending_is : (s v : List ℕ) (f n : ℕ) → f + n ≤ length s → begins (from s (f + n)) v ≡ true
+ending_is : (s v : List ℕ) (f n : ℕ) → f ≤ length s → n ≤ length (drop f s) → begins (from (from s f) n) v ≡ true
     → drop n (drop f s) ≡ v ++ drop (length v) (drop n (drop f s))
-ending_is s v f n h e =
-    begins_is (drop n (drop f s)) v (rw drop-drop (rw (from_is s (f + n) h) at e))
+ending_is s v f n h k e =
+    begins_is (drop n (drop f s)) v (rw (← from_is (drop f s) n k, ← from_is s f h) e)
 
 -- a byte is at most seven digits, too
 byte_fits : (l : List ℕ) (a : ℕ) → byte_of l ≡ Some a → (length l ≤ most_digits) × (breaks l ≡ 0)
@@ -178,9 +178,6 @@ module _ (k : Single) (s : List ℕ) (f a n : ℕ) (h : head_in kinds s ≡ Some
   told_one : Told (byte_of (first (drop f s))) (drop f s) a n
   told_one = byte_told (drop f s) a n byte_one
 
-  one_fits : f + n ≤ length s
-  one_fits = omega (arith, word_fits s (Kind.WithOne k) f h, told_fits told_one, length-drop f s)
-
   -- the row behind its word and comma
   one_rest : List ℕ
   one_rest = first (drop f s) ++ (44 ∷ 44 ∷ 44 ∷ [])
@@ -196,13 +193,13 @@ module _ (k : Single) (s : List ℕ) (f a n : ℕ) (h : head_in kinds s ≡ Some
       from_is one_rest n (omega (arith, one_length)) ∙ drop_at (first (drop f s)) (44 ∷ 44 ∷ 44 ∷ []) n (sym told_one.end) in
       sym (one_is k one_rest a n (byte_again (drop f s) (44 ∷ 44 ∷ []) ∙ byte_one) true (rw c) (one_step k a) refl)
 
-  pub one_leads : begins (from s (f + n)) (44 ∷ 44 ∷ 44 ∷ 10 ∷ []) ≡ true → Leads s (one_step k a) (f + n + 4)
+  pub one_leads : begins (from (from s f) n) (44 ∷ 44 ∷ 44 ∷ 10 ∷ []) ≡ true → Leads s (one_step k a) (f + n + 4)
   unfolding one_rest breaks
   one_leads b =
       let d = first (drop f s) in
       let fit = byte_fits d a told_one.value in
       let is : drop f s ≡ one_rest ++ (10 ∷ drop 4 (drop n (drop f s))) =
-      first_rest (drop f s) ∙ rw (← told_one.end, append_assoc) (ap (λ (l : List ℕ). d ++ l) (ending_is s (44 ∷ 44 ∷ 44 ∷ 10 ∷ []) f n one_fits b)) in
+      first_rest (drop f s) ∙ rw (← told_one.end, append_assoc) (ap (λ (l : List ℕ). d ++ l) (ending_is s (44 ∷ 44 ∷ 44 ∷ 10 ∷ []) f n (word_fits s (Kind.WithOne k) f h) (told_fits told_one) b)) in
       leads s (record { kind = Kind.WithOne k; end = f }) h one_rest (drop 4 (drop n (drop f s))) is (one_step k a) (f + n + 4) one_row
       (omega (arith, one_length))
       (clean d (44 ∷ 44 ∷ 44 ∷ []) fit.1 refl)
@@ -222,9 +219,6 @@ module _ (k : Double) (s : List ℕ) (f a b n : ℕ) (h : head_in kinds s ≡ So
 
   told_two : Both byte_of (drop f s) a b n
   told_two = both_bytes (drop f s) a b n bytes_two
-
-  two_fits : f + n ≤ length s
-  two_fits = omega (arith, word_fits s (Kind.WithTwo k) f h, both_fits told_two, length-drop f s)
 
   -- both numbers with the comma between them
   both : List ℕ
@@ -249,16 +243,16 @@ module _ (k : Double) (s : List ℕ) (f a b n : ℕ) (h : head_in kinds s ≡ So
       let p : bytes_at two_rest ≡ bytes_at (drop f s) = rw append_assoc (bytes_again (drop f s) (44 ∷ [])) in
       sym (two_is k two_rest a b n (p ∙ bytes_two) true (rw c) (two_step k a b) refl)
 
-  two_split : begins (from s (f + n)) (44 ∷ 44 ∷ 10 ∷ []) ≡ true → drop f s ≡ two_rest ++ (10 ∷ drop 3 (drop n (drop f s)))
+  two_split : begins (from (from s f) n) (44 ∷ 44 ∷ 10 ∷ []) ≡ true → drop f s ≡ two_rest ++ (10 ∷ drop 3 (drop n (drop f s)))
   unfolding two_rest both
   two_split c =
       let t = drop f s in
       let w : drop (length (first (after t))) (after t) ≡ 44 ∷ 44 ∷ 10 ∷ drop 3 (drop n t) =
-      sym (both_rest told_two) ∙ from_is t n (both_fits told_two) ∙ ending_is s (44 ∷ 44 ∷ 10 ∷ []) f n two_fits c in
+      sym (both_rest told_two) ∙ from_is t n (both_fits told_two) ∙ ending_is s (44 ∷ 44 ∷ 10 ∷ []) f n (word_fits s (Kind.WithTwo k) f h) (both_fits told_two) c in
       let p : after t ≡ first (after t) ++ (44 ∷ 44 ∷ 10 ∷ drop 3 (drop n t)) = first_rest (after t) ∙ ap (λ (l : List ℕ). first (after t) ++ l) w in
       first_after t told_two.several ∙ ap (λ (l : List ℕ). first t ++ (44 ∷ l)) p ∙ sym (simp append_assoc)
 
-  pub two_leads : begins (from s (f + n)) (44 ∷ 44 ∷ 10 ∷ []) ≡ true → Leads s (two_step k a b) (f + n + 3)
+  pub two_leads : begins (from (from s f) n) (44 ∷ 44 ∷ 10 ∷ []) ≡ true → Leads s (two_step k a b) (f + n + 3)
   unfolding two_rest both breaks
   two_leads c =
       let t = drop f s in

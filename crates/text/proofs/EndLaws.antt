@@ -15,8 +15,7 @@ use Rattle.std.specs.Prelude.{Option, Some, None, MatchOption, unwrap_or}
 use Rattle.text.specs.Names.{Found, Step}
 use Rattle.text.specs.Ends.{unended, breaks, step_in, Finds, Leads}
 use Rattle.text.specs.Rows.{row_of}
-use Rattle.text.proofs.BreakLaws.{breaks_append, part_all}
-use Rattle.text.proofs.FieldLaws.{from}
+use Rattle.text.proofs.BreakLaws.{breaks_append}
 
 -- ---- a CR at a row's end
 

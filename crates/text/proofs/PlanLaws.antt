@@ -1,5 +1,6 @@
 -- Laws of plan rows, which have four numbers: the first two are read as a pair, then the other two. Assumes nothing.
-use Prim.Native.Nat.{ℕ, ◌+◌}
+use Prim.Native.Nat.{ℕ, ◌+◌, ◌≤◌}
+use native.Mathlib.Omega.{arith}
 use mathlib.Core.Bool.{Bool, true, false, cond}
 use mathlib.Core.Logic.{◌⊎◌, inr, ⊎_elim}
 use mathlib.Core.List.{List, [], ◌∷◌}
@@ -14,7 +15,7 @@ use Rattle.text.specs.Pieces.{first, after, pair_at}
 use Rattle.text.specs.Rows.{plan_by, row_by, row_as}
 use Rattle.text.specs.Names.{Kind, Row}
 use Rattle.text.proofs.FieldLaws.{from, others, split_is, unused}
-use Rattle.text.proofs.PairLaws.{next, pair_no, both_told, both_split, both_last, both_others}
+use Rattle.text.proofs.PairLaws.{next, pair_no, both_told, both_fits, both_split, both_last, both_others}
 
 -- no plan without a number in the third or the fourth
 plan_no : (x y z w : Option ℕ) → (z ≡ None) ⊎ (w ≡ None) → plan_by x y z w ≡ None
@@ -68,32 +69,33 @@ module _ (s : List ℕ) (n k i : ℕ) (e : pair_at s ≡ Some (n, k, i)) where
   unfolding row_as
   plan_short h = let p = both_told s n k i e in sym (rw (both_split p, both_last p h))
 
-  module _ (h : i ≡ length s → ⊥) where
-    plan_rest : row_as Kind.Plans (split s) ≡ plan_from (Some n) (Some k) (from s (i + 1))
+  module _ (h : i + 1 ≤ length s) (t : List ℕ) (is : t ≡ from s (i + 1)) where
+    plan_rest : row_as Kind.Plans (split s) ≡ plan_from (Some n) (Some k) t
     plan_rest =
         let p = both_told s n k i e in
-        rw (both_split p, both_others p h)
-        (plan_half (first s) (first (after s)) (from s (i + 1)) ∙ rw (p.one, p.two))
+        rw (both_split p, both_others p h, ← is)
+        (plan_half (first s) (first (after s)) t ∙ rw (p.one, p.two))
 
-    pub plan_half_none : pair_at (from s (i + 1)) ≡ None → None ≡ row_as Kind.Plans (split s)
+    pub plan_half_none : pair_at t ≡ None → None ≡ row_as Kind.Plans (split s)
     unfolding pair_at
     plan_half_none f =
-        let t : List ℕ = from s (i + 1) in
         let bad = pair_no (number_of (first t)) (number_of (first (after t))) _ f in
         sym (plan_rest ∙ go (unused 0 (others (after t))) (plan_no (Some n) (Some k) (number_of (first t)) (number_of (first (after t))) bad))
       where
-        go : {x : Option Row} (t : Bool) → x ≡ None → cond t x None ≡ None
+        go : {x : Option Row} (u : Bool) → x ≡ None → cond u x None ≡ None
         go true q = q
         go false q = refl
 
-    pub plan_is : (r b j : ℕ) → pair_at (from s (i + 1)) ≡ Some (r, b, j) → then_some (eqb j (length (from s (i + 1)))) (Row.Plan n k r b) ≡ row_as Kind.Plans (split s)
+    pub plan_is : (r b j : ℕ) → pair_at t ≡ Some (r, b, j) → then_some (eqb j (length t)) (Row.Plan n k r b) ≡ row_as Kind.Plans (split s)
     unfolding unused
     plan_is r b j f =
-        let t : List ℕ = from s (i + 1) in
         let p = both_told t r b j f in
         sym (plan_rest ∙ rw (p.one, p.two) (go (eqb j (length t)) refl))
       where
-        go : (u : Bool) → eqb j (length (from s (i + 1))) ≡ u
-            → cond (unused 0 (others (after (from s (i + 1))))) (Some (Row.Plan n k r b)) None ≡ then_some u (Row.Plan n k r b)
-        go true q = rw (both_last (both_told (from s (i + 1)) r b j f) (eqb-true _ _ q))
-        go false q = rw (both_others (both_told (from s (i + 1)) r b j f) (eqb-false _ _ q) ∙ split_is (from (from s (i + 1)) (j + 1)))
+        go : (u : Bool) → eqb j (length t) ≡ u
+            → cond (unused 0 (others (after t))) (Some (Row.Plan n k r b)) None ≡ then_some u (Row.Plan n k r b)
+        go true q = rw (both_last (both_told t r b j f) (eqb-true _ _ q))
+        go false q =
+            let p = both_told t r b j f in
+            let more : j + 1 ≤ length t = omega (arith, both_fits p, eqb-false _ _ q) in
+            rw (both_others p more ∙ split_is (from t (j + 1)))

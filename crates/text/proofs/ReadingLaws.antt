@@ -142,6 +142,6 @@ module _ (s : List ℕ) (a n : ℕ) (e : byte_at s ≡ Some (a, n)) where
   unfolding reading_in
   write_short h = sym (write_row s ∙ rw (told_last (byte_told s a n e) h) (write_no (byte_of (first s))))
 
-  pub write_is : (n ≡ length s → ⊥) → (r : Option Reading) → r ≡ reading_in (split (from s (n + 1)))
+  pub write_is : n + 1 ≤ length s → (t : List ℕ) → t ≡ from s (n + 1) → (r : Option Reading) → r ≡ reading_in (split t)
       → write_by (Some a) r ≡ row_as Kind.Writes (split s)
-  write_is h r q = let t = byte_told s a n e in sym (write_row s ∙ rw (t.value, told_others t h, q))
+  write_is h t d r q = let b = byte_told s a n e in sym (write_row s ∙ rw (b.value, told_others b h t d, q))

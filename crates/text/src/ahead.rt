@@ -14,8 +14,9 @@ fn one_ahead(k: Single, s: &[u8], from: usize) -> Option<Found>
     requires { head_in kinds s.now ≡ Some (record { kind = Kind.WithOne k; end = from }) }
     ensures { IfSome result (λ f. Leads s.now f.step f.end) }
 {
-    let (a, n) = field::byte_at(&s[from..])?;
-    if !s[from + n..].starts_with(b",,,\n") {
+    let rest = &s[from..];
+    let (a, n) = field::byte_at(rest)?;
+    if !rest[n..].starts_with(b",,,\n") {
         return None;
     }
     Some(Found {
@@ -28,8 +29,9 @@ fn two_ahead(k: Double, s: &[u8], from: usize) -> Option<Found>
     requires { head_in kinds s.now ≡ Some (record { kind = Kind.WithTwo k; end = from }) }
     ensures { IfSome result (λ f. Leads s.now f.step f.end) }
 {
-    let (a, b, n) = field::bytes_at(&s[from..])?;
-    if !s[from + n..].starts_with(b",,\n") {
+    let rest = &s[from..];
+    let (a, b, n) = field::bytes_at(rest)?;
+    if !rest[n..].starts_with(b",,\n") {
         return None;
     }
     Some(Found {

@@ -60,12 +60,9 @@ fn plan_row(s: &[u8]) -> Option<Row>
     ensures { result ≡ row_as Kind.Plans (split s.now) }
 {
     let (n, k, at) = field::pair_at(s)?;
-    if at == s.len() {
-        return None;
-    }
-    let t = &s[at + 1..];
-    let (r, b, end) = field::pair_at(t)?;
-    (end == t.len()).then_some(Row::Plan(n, k, r, b))
+    let rest = s.get(at + 1..)?;
+    let (r, b, end) = field::pair_at(rest)?;
+    (end == rest.len()).then_some(Row::Plan(n, k, r, b))
 }
 
 // A client, and a reading.
@@ -73,10 +70,7 @@ fn write_row(s: &[u8]) -> Option<Row>
     ensures { result ≡ row_as Kind.Writes (split s.now) }
 {
     let (a, n) = field::byte_at(s)?;
-    if n == s.len() {
-        return None;
-    }
-    let w = reading::reading_of(&s[n + 1..])?;
+    let w = reading::reading_of(s.get(n + 1..)?)?;
     Some(Row::Step(Step::Write(a, w)))
 }
 

@@ -1,5 +1,5 @@
 -- `step_ahead` meets its contract. Assumes nothing.
-use mathlib.Core.Path.{refl, sym, ◌∙◌}
+use mathlib.Core.Path.{refl}
 use Rattle.text.proofs.BytesLaws.{begins_by}
 use Rattle.text.proofs.WordLaws.{by_first}
 use Rattle.text.specs.Pieces.{lead_by}
@@ -13,9 +13,3 @@ one_ahead-requires c = by_first kinds _ 100 _ _ _ refl (begins_by _ _ _ c.if-sta
 pub two_ahead-requires : goal.two_ahead-requires
 unfolding lead_by
 two_ahead-requires c = by_first kinds _ 115 _ _ _ refl (begins_by _ _ _ c.if-starts_with-2.ensures.value)
-
-pub one_ahead-requires-in-WithOne : goal.one_ahead-requires-in-WithOne
-one_ahead-requires-in-WithOne c = sym c.in_ok-head.ensures ∙ rw c.in-WithOne.is
-
-pub two_ahead-requires-in-WithTwo : goal.two_ahead-requires-in-WithTwo
-two_ahead-requires-in-WithTwo c = sym c.in_ok-head.ensures ∙ rw c.in-WithTwo.is
