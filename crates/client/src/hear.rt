@@ -1,7 +1,7 @@
 // A reply reaches its client: it is discarded or counted, and the last one awaited ends the part.
 ghost use Rattle.std.specs.Prelude.{◌≡◌, ℕ, ◌≤◌, ◌<◌};
 ghost use Rattle.limits.specs.Limits.{most_clients, most_steps};
-ghost use Rattle.heard.specs.Heard.{count_of};
+ghost use Rattle.heard.specs.Heard.{count_of, with_of};
 ghost use Rattle.client.specs.Hear.{told_by, told_of, best_of, counted, ended, first_write, first_read, second, hears_of, told_counter};
 ghost use Rattle.client.specs.Small.{hears_as};
 
@@ -52,14 +52,6 @@ fn awaited(c: &Client, m: &Message) -> Option<Told>
     }
 }
 
-#[tactic(auto, unfolding(crate::specs::Hear::best_of))]
-fn best_of(heard: u8, best: Entry, e: Entry) -> Entry
-    ensures { result ≡ best_of heard best e }
-{
-    let greater = best.takes(e);
-    if heard == 1 || greater { e } else { best }
-}
-
 // What a reply does to its client, without the places that change: nothing, it is counted, or it ends the part.
 #[derive(Clone, Copy, PartialEq, Eq)]
 pub enum Hears {
@@ -68,86 +60,102 @@ pub enum Hears {
     Ends(Ending, Entry, Client),
 }
 
-// The cabinets heard in a part, the last one among them, and how many they are.
+// A part that hears one cabinet more: its client before that, and the cabinets heard, this one among them.
 #[derive(Clone, Copy)]
-struct Voices {
+struct Hearing {
+    plan: Plan,
+    client: Client,
     heard: Heard,
     count: u8,
     ghost counted: { count ≡ count_of heard },
 }
 
-impl Voices {
-    fn of(heard: Heard) -> Voices
-        ensures { result.heard ≡ heard }
+impl Hearing {
+    fn of(plan: Plan, client: &Client, cabinet: u8) -> Hearing
+        ensures from { (result.plan ≡ plan) × (result.client ≡ client.now) }
+        ensures heard { result.heard ≡ with_of client.now.heard cabinet }
     {
-        Voices {
+        let heard = client.heard.with(cabinet);
+        Hearing {
+            plan,
+            client: *client,
             heard,
             count: heard.count(),
         }
     }
-}
 
-fn count(c: &Client, v: Voices, best: Entry) -> Hears
-    ensures { (i j : ℕ) → counted i j c.now v.heard best ≡ hears_as i j result }
-{
-    Hears::Counts(Client {
-        heard: v.heard,
-        best,
-        ..*c
-    })
-}
-
-fn end(c: &Client, how: Ending, shown: Entry, next: Work, best: Entry) -> Hears
-    ensures { (i j : ℕ) → ended i j c.now.operation how shown next best ≡ hears_as i j result }
-{
-    Hears::Ends(
-        how,
-        shown,
-        Client {
-            operation: c.operation,
-            work: next,
-            heard: Heard::none(),
+    fn counts(self, best: Entry) -> Hears
+        ensures { (i j : ℕ) → counted i j self.client self.heard best ≡ hears_as i j result }
+    {
+        Hears::Counts(Client {
+            heard: self.heard,
             best,
-        },
-    )
-}
+            ..self.client
+        })
+    }
 
-#[tactic(auto, unfolding(crate::specs::Hear::first_write))]
-fn first_write(plan: Plan, i: u8, c: &Client, v: Voices, r: Reading, best: Entry) -> Hears
-    requires { (i < most_clients) × (best.stamp.counter ≤ most_steps) }
-    ensures { (j : ℕ) → first_write plan i j c.now v.heard r best ≡ hears_as i j result }
-{
-    if plan.read <= v.count {
-        let e = Entry {
-            stamp: Stamp {
-                counter: best.stamp.counter + 1,
-                writer: i + 1,
+    fn ends(self, how: Ending, shown: Entry, next: Work, best: Entry) -> Hears
+        ensures { (i j : ℕ) → ended i j self.client.operation how shown next best ≡ hears_as i j result }
+    {
+        Hears::Ends(
+            how,
+            shown,
+            Client {
+                operation: self.client.operation,
+                work: next,
+                heard: Heard::none(),
+                best,
             },
-            reading: r,
-        };
-        return end(c, Ending::Chosen, e, Work::SecondWrite, e);
+        )
     }
-    count(c, v, best)
-}
 
-#[tactic(auto, unfolding(crate::specs::Hear::first_read))]
-fn first_read(plan: Plan, c: &Client, v: Voices, best: Entry) -> Hears
-    ensures { (i j : ℕ) → first_read plan i j c.now v.heard best ≡ hears_as i j result }
-{
-    if plan.read <= v.count {
-        return end(c, Ending::Found, best, Work::SecondRead, best);
+    #[tactic(auto, unfolding(crate::specs::Hear::first_write))]
+    fn first_write(self, i: u8, r: Reading, best: Entry) -> Hears
+        requires { (i < most_clients) × (best.stamp.counter ≤ most_steps) }
+        ensures { (j : ℕ) → first_write self.plan i j self.client self.heard r best ≡ hears_as i j result }
+    {
+        if self.plan.read <= self.count {
+            let e = Entry {
+                stamp: Stamp {
+                    counter: best.stamp.counter + 1,
+                    writer: i + 1,
+                },
+                reading: r,
+            };
+            return self.ends(Ending::Chosen, e, Work::SecondWrite, e);
+        }
+        self.counts(best)
     }
-    count(c, v, best)
-}
 
-#[tactic(auto, unfolding(crate::specs::Hear::second))]
-fn second_part(plan: Plan, c: &Client, v: Voices, how: Ending) -> Hears
-    ensures { (i j : ℕ) → second plan i j c.now v.heard how ≡ hears_as i j result }
-{
-    if plan.write <= v.count {
-        return end(c, how, c.best, Work::Idle, Entry::FACTORY);
+    #[tactic(auto, unfolding(crate::specs::Hear::first_read))]
+    fn first_read(self, best: Entry) -> Hears
+        ensures { (i j : ℕ) → first_read self.plan i j self.client self.heard best ≡ hears_as i j result }
+    {
+        if self.plan.read <= self.count {
+            return self.ends(Ending::Found, best, Work::SecondRead, best);
+        }
+        self.counts(best)
     }
-    count(c, v, c.best)
+
+    #[tactic(auto, unfolding(crate::specs::Hear::second))]
+    fn second(self, how: Ending) -> Hears
+        ensures { (i j : ℕ) → second self.plan i j self.client self.heard how ≡ hears_as i j result }
+    {
+        if self.plan.write <= self.count {
+            return self.ends(how, self.client.best, Work::Idle, Entry::FACTORY);
+        }
+        self.counts(self.client.best)
+    }
+
+    // The best entry of a first part that hears e.
+    #[tactic(auto, unfolding(crate::specs::Hear::best_of))]
+    fn best(self, e: Entry) -> Entry
+        ensures { result ≡ best_of (count_of self.heard) self.client.best e }
+    {
+        let best = self.client.best;
+        let greater = best.takes(e);
+        if self.count == 1 || greater { e } else { best }
+    }
 }
 
 // Client m.client, which is c, hears the message m.
@@ -156,19 +164,12 @@ pub fn hear(plan: Plan, c: &Client, m: &Message) -> Hears
     requires { (m.now.client < most_clients) × (c.now.best.stamp.counter ≤ most_steps) × (told_counter m.now.body ≤ most_steps) }
     ensures { (j : ℕ) → hears_of plan j c.now m.now ≡ hears_as m.now.client j result }
 {
-    let v = Voices::of(c.heard.with(m.cabinet));
+    let part = Hearing::of(plan, c, m.cabinet);
     match awaited(c, m) {
         None => Hears::Nothing,
-        Some(Told::OfWrite(r, e)) => first_write(
-            plan,
-            m.client,
-            c,
-            v,
-            r,
-            best_of(v.count, c.best, e),
-        ),
-        Some(Told::OfRead(e)) => first_read(plan, c, v, best_of(v.count, c.best, e)),
-        Some(Told::Wrote) => second_part(plan, c, v, Ending::Written),
-        Some(Told::ReadBack) => second_part(plan, c, v, Ending::Read),
+        Some(Told::OfWrite(r, e)) => part.first_write(m.client, r, part.best(e)),
+        Some(Told::OfRead(e)) => part.first_read(part.best(e)),
+        Some(Told::Wrote) => part.second(Ending::Written),
+        Some(Told::ReadBack) => part.second(Ending::Read),
     }
 }

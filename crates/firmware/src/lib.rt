@@ -5,9 +5,9 @@ mod layout;
 mod xdr;
 
 ghost use Rattle.std.specs.Prelude.{◌≡◌};
-ghost use Rattle.firmware.specs.Offer.{answers, answer_of, held_after};
+ghost use Rattle.firmware.specs.Offer.{verdict_on, number_of, answer_of, held_after};
 
-use layout::Decoded;
+use cabinet::Entry;
 
 pub const TAKEN: u32 = 20;
 
@@ -15,15 +15,34 @@ pub const KEPT: u32 = 21;
 
 pub const REFUSED: u32 = 2;
 
-fn judge(held: Decoded, offered: Decoded) -> u32
-    ensures { result ≡ answers held offered }
+// What comes of an offer. It is refused where one of the two buffers holds no entry.
+#[derive(Clone, Copy, PartialEq, Eq)]
+enum Verdict {
+    Taken,
+    Kept,
+    Refused,
+}
+
+// The number that C is told.
+impl From<Verdict> for u32 {
+    ghost from_gives = { λ verdict number. number ≡ number_of verdict };
+
+    fn from(verdict: Verdict) -> u32 {
+        match verdict {
+            Verdict::Taken => TAKEN,
+            Verdict::Kept => KEPT,
+            Verdict::Refused => REFUSED,
+        }
+    }
+}
+
+fn judge(held: Option<Entry>, offered: Option<Entry>) -> Verdict
+    ensures { result ≡ verdict_on held offered }
 {
-    match held {
-        Decoded::NoEntry => REFUSED,
-        Decoded::Holds(mine) => match offered {
-            Decoded::NoEntry => REFUSED,
-            Decoded::Holds(theirs) => { if mine.takes(theirs) { TAKEN } else { KEPT } }
-        },
+    match (held, offered) {
+        (Some(mine), Some(theirs)) if mine.takes(theirs) => Verdict::Taken,
+        (Some(_), Some(_)) => Verdict::Kept,
+        _ => Verdict::Refused,
     }
 }
 
@@ -34,11 +53,9 @@ pub extern "C" fn cabinet_offer(held: &mut [u8], offered: &[u8]) -> u32
     ensures value { result ≡ answer_of held.old offered.now }
     ensures held_after { held.new ≡ held_after held.old offered.now }
 {
-    let mine = layout::decode(held);
-    let theirs = layout::decode(offered);
-    let answer = judge(mine, theirs);
-    if answer == TAKEN {
-        xdr::copy_over(held, offered);
+    let verdict = judge(layout::decode(held), layout::decode(offered));
+    if verdict == Verdict::Taken {
+        held.copy_from_slice(offered);
     }
-    answer
+    verdict.into()
 }

@@ -2,12 +2,11 @@
 -- has the reason.
 use Rattle.std.specs.Prelude.{ℕ, ◌+◌, Bool, false, ◌&&◌, not, leb}
 use Rattle.plan.specs.Rule.{plan_of}
-use Rattle.plans.specs.Names.{Plan, Planned}
+use Rattle.plans.specs.Names.{Err, Ok, Plan, Planned}
 
 -- an accepted plan that needs no more stores than these
 abbrev pub affords : Planned → ℕ → Bool
-affords (Err Unplanned.OutOfRange) s = false
-affords (Err Unplanned.TooSmall) s = false
+affords (Err why) s = false
 affords (Ok q) s = leb q.stores s
 
 -- with no more stores the line cannot bear one more faulty cabinet, nor one more that rolls back, nor one more sound one that restarts

@@ -6,98 +6,55 @@ ghost use Rattle.plan.specs.Rule.{plan_of};
 ghost use Rattle.plans.specs.Worth.{affords as affords_of, worth as worth_of};
 
 use limits::{FEWEST_CABINETS, MOST_CABINETS};
-use plan::{Plan, Planned, Profile};
+use plan::{Plan, Profile};
 use std::io;
 
 // Whether these numbers make a plan that needs no more than so many stores.
 fn affords(n: u64, k: u64, r: u64, b: u64, stores: u8) -> bool
     ensures { result ≡ affords_of (plan_of n k r b) stores }
 {
-    match plan::choose(n, k, r, b) {
-        Planned::OutOfRange => false,
-        Planned::TooSmall => false,
-        Planned::Accepted(p) => p.stores <= stores,
-    }
+    plan::choose(n, k, r, b).is_ok_and(|p| p.stores <= stores)
 }
 
 // A plan is worth choosing when no other of the same n, with no more stores, has k, r and b at least as large and one of them larger.
 // Three questions find that out, though the accepted plans are not downward closed: 3,1,1,0 is accepted and 3,0,1,0 is not, for r may not
 // exceed k. Between a plan and a larger one k can always be raised first. Law `none_better` of proofs/WorthLaws.antt.
+#[tactic(auto, unfolding(crate::specs::Worth::worth))]
 fn is_worth(p: Plan) -> bool
     ensures { result ≡ worth_of p }
 {
-    let n = p.n as u64;
-    let k = p.k as u64;
-    let r = p.r as u64;
-    let b = p.b as u64;
-    if affords(n, k + 1, r, b, p.stores) {
-        return false;
-    }
-    if affords(n, k, r + 1, b, p.stores) {
-        return false;
-    }
-    if affords(n, k, r, b + 1, p.stores) {
-        return false;
-    }
-    true
-}
-
-fn cell(rt: &impl Print, number: u8) -> io::Result<()> {
-    print!(rt; " {number} |")
-}
-
-fn profile_cell(rt: &impl Print, profile: Profile) -> io::Result<()> {
-    match profile {
-        Profile::Forgetful => print!(rt; " forgetful |"),
-        Profile::Store => print!(rt; " store |"),
-    }
+    let (n, k, r, b) = (p.n as u64, p.k as u64, p.r as u64, p.b as u64);
+    !affords(n, k + 1, r, b, p.stores)
+        && !affords(n, k, r + 1, b, p.stores)
+        && !affords(n, k, r, b + 1, p.stores)
 }
 
 fn row(rt: &impl Print, p: Plan) -> io::Result<()> {
-    print!(rt; "|")?;
-    cell(rt, p.n)?;
-    cell(rt, p.k)?;
-    cell(rt, p.r)?;
-    cell(rt, p.b)?;
-    profile_cell(rt, p.profile)?;
-    cell(rt, p.stores)?;
-    cell(rt, p.write)?;
-    cell(rt, p.read)?;
-    println!(rt; "")
+    let profile = match p.profile {
+        Profile::Forgetful => "forgetful",
+        Profile::Store => "store",
+    };
+    println!(rt;
+        "| {} | {} | {} | {} | {profile} | {} | {} | {} |",
+        p.n, p.k, p.r, p.b, p.stores, p.write, p.read
+    )
 }
 
-// A line is shown in two passes: first its plans without stores, then those with.
-fn row_if_worth(rt: &impl Print, answer: Planned, stored: bool) -> io::Result<()> {
-    match answer {
-        Planned::OutOfRange => Ok(()),
-        Planned::TooSmall => Ok(()),
-        Planned::Accepted(p) => {
-            if (p.stores > 0) == stored && is_worth(p) {
-                row(rt, p)
-            } else {
-                Ok(())
+// A line's plans in two passes: first those without stores, then those with.
+fn rows(rt: &impl Print, n: u64) -> io::Result<()> {
+    for stored in [false, true] {
+        for k in 0..=n {
+            for r in 0..=k {
+                for b in 0..=n {
+                    if let Ok(p) = plan::choose(n, k, r, b)
+                        && (p.stores > 0) == stored
+                        && is_worth(p)
+                    {
+                        row(rt, p)?;
+                    }
+                }
             }
         }
-    }
-}
-
-fn over_restarting(rt: &impl Print, n: u64, k: u64, r: u64, stored: bool) -> io::Result<()> {
-    for b in 0..=n {
-        row_if_worth(rt, plan::choose(n, k, r, b), stored)?;
-    }
-    Ok(())
-}
-
-fn over_rolling(rt: &impl Print, n: u64, k: u64, stored: bool) -> io::Result<()> {
-    for r in 0..=k {
-        over_restarting(rt, n, k, r, stored)?;
-    }
-    Ok(())
-}
-
-fn over_faulty(rt: &impl Print, n: u64, stored: bool) -> io::Result<()> {
-    for k in 0..=n {
-        over_rolling(rt, n, k, stored)?;
     }
     Ok(())
 }
@@ -106,8 +63,7 @@ fn main(rt: HostRuntime) -> io::Result<()> {
     println!(rt; "| n | k | r | b | Profile | Stores | Write quorum | Read quorum |")?;
     println!(rt; "|---|---|---|---|---|---|---|---|")?;
     for n in FEWEST_CABINETS as u64..=MOST_CABINETS as u64 {
-        over_faulty(&rt, n, false)?;
-        over_faulty(&rt, n, true)?;
+        rows(&rt, n)?;
     }
     Ok(())
 }

@@ -3,12 +3,6 @@
 use Prim.Native.Nat.{ℕ}
 use mathlib.Core.Path.{◌≡◌}
 use Rattle.print.proofs.PutLaws.{agree}
-use Rattle.print.proofs.often.put_answered.Reads as put-answered
-use Rattle.print.proofs.often.put_counted.Reads as put-counted
-use Rattle.print.proofs.often.put_discarded.Reads as put-discarded
-use Rattle.print.proofs.often.put_ended.Reads as put_ended
-use Rattle.print.proofs.often.put_sent.Reads as put-sent
-use Rattle.print.proofs.often.put_unanswered.Reads as put-unanswered
 use Rattle.print.proofs.row.put_step.Reads as put_step
 use Rattle.print.proofs.row.put_plan.Reads as put-plan
 use Rattle.print.proofs.row.put_refusal.Reads as put-refusal
@@ -34,27 +28,3 @@ put_head_decides κs a r r' s s' p q = agree _ _ _ p.0 q.0
 pub put_no_header_decides : (κs : _) (a : _) (r r' : ℕ) (s s' : _)
     → put-no-header.Post κs a r s → put-no-header.Post κs a r' s' → (r ≡ r') × (s.0.now ≡ s'.0.now)
 put_no_header_decides κs a r r' s s' p q = agree _ _ _ p.0 q.0
-
-pub put_answered_decides : (κs : _) (a : _) (r r' : ℕ) (s s' : _)
-    → put-answered.Post κs a r s → put-answered.Post κs a r' s' → (r ≡ r') × (s.0.now ≡ s'.0.now)
-put_answered_decides κs a r r' s s' p q = agree _ _ _ p.0 q.0
-
-pub put_counted_decides : (κs : _) (a : _) (r r' : ℕ) (s s' : _)
-    → put-counted.Post κs a r s → put-counted.Post κs a r' s' → (r ≡ r') × (s.0.now ≡ s'.0.now)
-put_counted_decides κs a r r' s s' p q = agree _ _ _ p.0 q.0
-
-pub put_discarded_decides : (κs : _) (a : _) (r r' : ℕ) (s s' : _)
-    → put-discarded.Post κs a r s → put-discarded.Post κs a r' s' → (r ≡ r') × (s.0.now ≡ s'.0.now)
-put_discarded_decides κs a r r' s s' p q = agree _ _ _ p.0 q.0
-
-pub put_ended_decides : (κs : _) (a : _) (r r' : ℕ) (s s' : _)
-    → put_ended.Post κs a r s → put_ended.Post κs a r' s' → (r ≡ r') × (s.0.now ≡ s'.0.now)
-put_ended_decides κs a r r' s s' p q = agree _ _ _ p.0 q.0
-
-pub put_sent_decides : (κs : _) (a : _) (r r' : ℕ) (s s' : _)
-    → put-sent.Post κs a r s → put-sent.Post κs a r' s' → (r ≡ r') × (s.0.now ≡ s'.0.now)
-put_sent_decides κs a r r' s s' p q = agree _ _ _ p.0 q.0
-
-pub put_unanswered_decides : (κs : _) (a : _) (r r' : ℕ) (s s' : _)
-    → put-unanswered.Post κs a r s → put-unanswered.Post κs a r' s' → (r ≡ r') × (s.0.now ≡ s'.0.now)
-put_unanswered_decides κs a r r' s s' p q = agree _ _ _ p.0 q.0

@@ -1,29 +1,19 @@
--- Laws of a number's digits: they can be written two, four and eight at a time. Assumes nothing.
-use Prim.Native.Nat.{ℕ, zero, suc, ◌*◌, ◌/◌, ◌%◌, ◌^◌, ◌<◌, ◌≤◌}
+-- Laws of a number's digits: they can be written two and four at a time, and how many there are. Assumes nothing.
+use Prim.Native.Nat.{ℕ, zero, suc, ◌/◌, ◌%◌, ◌^◌, ◌<◌, ◌≤◌}
 use native.Mathlib.Omega.{arith}
-use native.Mathlib.Nat.{pow-suc, div-lt_iff_lt-mul}
-use mathlib.Core.Bool.{Bool, true, false, cond}
-use mathlib.Core.List.{List, [], ◌∷◌, ◌++◌, append_assoc}
-use mathlib.Core.Path.{◌≡◌, refl, sym, ◌∙◌, ap}
-use lib.Dec.{ltb}
+use native.Mathlib.Nat.{pow-suc}
+use mathlib.Core.List.{[], ◌∷◌, ◌++◌, append_assoc}
+use mathlib.Core.Path.{◌≡◌}
+use lib.ListN.{length, length-append}
 use borrow.Author.Tests.{lt-ltb, le-ltb}
-use Rattle.print.specs.Numbers.{digit, digits_by, decimal, pair, four, eight}
-
-pub tenth : (n m : ℕ) → n < m * 10 → n / 10 < m
-tenth n m h = let p : 0 < 10 = omega arith in (div-lt_iff_lt-mul {k = 10} {x = n} {y = m} p).1 h
+use Rattle.print.specs.Numbers.{digit, digits_by, decimal, pair, four}
 
 -- one digit more is not used
 
 enough : (k n : ℕ) → n < 10 ^ suc k → digits_by (suc k) n ≡ digits_by (suc (suc k)) n
 unfolding digits_by
-enough zero n h = let e : n < 10 = omega (arith, pow-suc 10 0) in rw (lt-ltb _ _ e)
-enough (suc k) n h = go (ltb n 10) (enough k (n / 10) (tenth n (10 ^ suc k) (omega (arith, pow-suc 10 (suc k)))))
-  where
-    go : (t : Bool) → digits_by (suc k) (n / 10) ≡ digits_by (suc (suc k)) (n / 10)
-        → cond t (digit n ∷ []) (digits_by (suc k) (n / 10) ++ (digit (n % 10) ∷ [])) ≡ cond t (digit n ∷ [])
-        (digits_by (suc (suc k)) (n / 10) ++ (digit (n % 10) ∷ []))
-    go true e = refl
-    go false e = rw e
+enough zero n h = grind (arith, pow-suc 10 0)
+enough (suc k) n h = grind (arith, pow-suc 10 (suc k), enough k (n / 10))
 
 digits_one : (k n : ℕ) → n < 10 → digit n ∷ [] ≡ digits_by (suc k) n
 unfolding digits_by
@@ -39,41 +29,35 @@ decimal_one n h = digits_one 19 n h
 
 decimal_last : (n : ℕ) → 10 ≤ n → n < 10 ^ 20 → decimal (n / 10) ++ (digit (n % 10) ∷ []) ≡ decimal n
 unfolding decimal
-decimal_last n h k =
-    ap (λ (l : List ℕ). l ++ (digit (n % 10) ∷ [])) (sym (enough 18 (n / 10) (tenth n (10 ^ 19) k))) ∙ digits_more 19 n h
+decimal_last n h k = grind (arith, enough 18 (n / 10), digits_more 19 n)
 
--- two, four and eight digits at a time
+-- two and four digits at a time
 
 decimal_then_pair : (n : ℕ) → 100 ≤ n → n < 10 ^ 20 → decimal (n / 100) ++ pair (n % 100) ≡ decimal n
-decimal_then_pair n h k =
-    let a : n / 10 / 10 ≡ n / 100 = omega arith in
-    let b : n / 10 % 10 ≡ n % 100 / 10 = omega arith in
-    let c : n % 10 ≡ n % 100 % 10 = omega arith in
-    rw (← decimal_last n (omega arith) k, ← decimal_last (n / 10) (omega arith) (omega arith), ← a, ← b, ← c) (simp append_assoc)
+decimal_then_pair n h k = grind (arith, decimal_last n, decimal_last (n / 10), append_assoc)
 
 pub decimal_two : (n : ℕ) → 10 ≤ n → n < 100 → pair n ≡ decimal n
-decimal_two n h k = rw (← decimal_last n h (omega arith), ← decimal_one (n / 10) (omega arith))
+decimal_two n h k = grind (arith, decimal_last n, decimal_one (n / 10))
 
 pub decimal_three : (n : ℕ) → 100 ≤ n → n < 1000 → (digit (n / 100) ∷ []) ++ pair (n % 100) ≡ decimal n
-decimal_three n h k = rw (← decimal_then_pair n h (omega arith), ← decimal_one (n / 100) (omega arith))
+decimal_three n h k = grind (arith, decimal_then_pair n, decimal_one (n / 100))
 
 pub decimal_four : (n : ℕ) → 1000 ≤ n → n < 10000 → four n ≡ decimal n
 unfolding four
-decimal_four n h k = rw (← decimal_then_pair n (omega arith) (omega arith), ← decimal_two (n / 100) (omega arith) (omega arith))
+decimal_four n h k = grind (arith, decimal_then_pair n, decimal_two (n / 100))
 
 pub decimal_then_four : (n : ℕ) → 10000 ≤ n → n < 10 ^ 20 → decimal (n / 10000) ++ four (n % 10000) ≡ decimal n
 unfolding four
-decimal_then_four n h k =
-    let a : n / 100 / 100 ≡ n / 10000 = omega arith in
-    let b : n / 100 % 100 ≡ n % 10000 / 100 = omega arith in
-    let c : n % 100 ≡ n % 10000 % 100 = omega arith in
-    rw (← decimal_then_pair n (omega arith) k, ← decimal_then_pair (n / 100) (omega arith) (omega arith), ← a, ← b, ← c) (simp append_assoc)
+decimal_then_four n h k = grind (arith, decimal_then_pair n, decimal_then_pair (n / 100), append_assoc)
 
-pub decimal_then_eight : (n : ℕ) → 100000000 ≤ n → n < 10 ^ 20 → decimal (n / 100000000) ++ eight (n % 100000000) ≡ decimal n
-unfolding eight
-decimal_then_eight n h k =
-    let a : n / 10000 / 10000 ≡ n / 100000000 = omega arith in
-    let b : n / 10000 % 10000 ≡ n % 100000000 / 10000 = omega arith in
-    let c : n % 10000 ≡ n % 100000000 % 10000 = omega arith in
-    rw (← decimal_then_four n (omega arith) k, ← decimal_then_four (n / 10000) (omega arith) (omega arith), ← a, ← b, ← c)
-    (simp append_assoc)
+-- how many digits there are
+
+length_by : (m k n : ℕ) → n < 10 ^ suc k → length (digits_by m n) ≤ suc k
+unfolding digits_by
+length_by zero k n h = omega arith
+length_by (suc m) zero n h = grind (arith, pow-suc 10 0)
+length_by (suc m) (suc k) n h = grind (arith, length-append, pow-suc 10 (suc k), length_by m k (n / 10))
+
+pub length_decimal : (k n : ℕ) → n < 10 ^ suc k → length (decimal n) ≤ suc k
+unfolding decimal
+length_decimal k n h = length_by 20 k n h

@@ -1,12 +1,12 @@
--- Laws of bytes put into a buffer: one byte, a copy's turns, and one text behind another. Assumes nothing.
+-- Laws of bytes put into a buffer: one byte, and one text behind another. Assumes nothing.
 use Prim.Native.Nat.{ℕ, ◌+◌, ◌<◌, ◌≤◌}
 use native.Mathlib.Numerals.{add-one}
 use native.Mathlib.Omega.{arith}
-use native.Mathlib.Nat.{add_assoc, add-zero}
+use native.Mathlib.Nat.{add-zero}
 use mathlib.Core.List.{List, [], ◌∷◌, ◌++◌, append_assoc, append-nil}
-use mathlib.Core.Path.{◌≡◌, sym, ◌∙◌, ap}
-use lib.ListN.{length, get_or, set, take, drop, length-append, length-drop, take-append-drop}
-use lib.Seq.{take-length, length-take-le, set_split, take_at, drop-append-add, drop-drop, paste, paste-suc}
+use mathlib.Core.Path.{◌≡◌, sym, ◌∙◌}
+use lib.ListN.{length, set, take, length-append, length-drop, take-append-drop}
+use lib.Seq.{length-take-le, set_split, take_at, drop-append-add, drop-drop}
 use Rattle.print.specs.Put.{put, Wrote}
 
 -- for a caller that puts row behind row: where it begins, and the buffer's length
@@ -25,17 +25,11 @@ put_one d at b h = set_split d at b h ∙ simp (append_assoc, add-one)
 
 put_put : (d : List ℕ) (at : ℕ) (s t : List ℕ) → at ≤ length d → put (put d at s) (at + length s) t ≡ put d at (s ++ t)
 unfolding put
-put_put d at s t h =
-    let k : length (take at d) ≡ at = length-take-le at d h in
-    let n : length (take at d ++ s) ≡ at + length s = length-append (take at d) s ∙ ap (λ (m : ℕ). m + length s) k in
-    let e : drop (at + length s + length t) (take at d ++ s ++ drop (at + length s) d) ≡ drop (at + length s + length t) d =
-    ap (λ (m : ℕ). drop (m + length t) (take at d ++ s ++ drop (at + length s) d)) (sym n)
-    ∙ drop-append-add (take at d ++ s) (drop (at + length s) d) (length t)
-    ∙ drop-drop (length t) (at + length s) d in
-    rw (take_at (take at d ++ s) (drop (at + length s) d) (at + length s) n, e, length-append, append_assoc (take at d) s t, add_assoc)
+put_put d at s t h = grind (arith, length-take-le at d, take_at, drop-append-add, drop-drop, length-append, append_assoc)
 
 -- `s` and then `t` is the two together
-pub after : {e f : List ℕ} {at r q : ℕ} (d s t : List ℕ) → Wrote d at s e r → Wrote e r t f q → at ≤ length d → Wrote d at (s ++ t) f q
+pub after : {e f : List ℕ} {at r q : ℕ} (d s t : List ℕ)
+    → Wrote d at s e r → Wrote e r t f q → at ≤ length d → Wrote d at (s ++ t) f q
 after d s t p u h = (u.0 ∙ rw (p.0, p.1) (put_put d _ s t h), omega (arith, p.1, u.1, length-append s t))
 
 -- the same bytes, written otherwise
@@ -43,14 +37,6 @@ pub same : {e s t : List ℕ} {r : ℕ} (d : List ℕ) (at : ℕ) → s ≡ t �
 same d at q p = rw (← q) p
 
 -- what is written decides the buffer and the place
-pub agree : {e e' : List ℕ} {r r' : ℕ} (d : List ℕ) (at : ℕ) (s : List ℕ) → Wrote d at s e r → Wrote d at s e' r' → (r ≡ r') × (e ≡ e')
+pub agree : {e e' : List ℕ} {r r' : ℕ} (d : List ℕ) (at : ℕ) (s : List ℕ)
+    → Wrote d at s e r → Wrote d at s e' r' → (r ≡ r') × (e ≡ e')
 agree d at s p q = (p.1 ∙ sym q.1, p.0 ∙ sym q.0)
-
--- a turn of a copy, and its end
-pub copy_one : (d e : List ℕ) (at : ℕ) (s : List ℕ) (i : ℕ)
-    → e ≡ paste d at s i → at + i < length d → i < length s → set e (at + i) (get_or s i 0) ≡ paste d at s (i + 1)
-copy_one d e at s i p h k = rw (p, add-one) (paste-suc d at s i 0 h k)
-
-pub copy_all : (d : List ℕ) (at : ℕ) (s : List ℕ) (n : ℕ) → n ≡ length s → paste d at s n ≡ put d at s
-unfolding put
-copy_all d at s n e = rw (e, take-length)

@@ -3,58 +3,30 @@ use Prim.Native.Nat.{ℕ, ◌<◌}
 use native.Mathlib.Omega.{arith}
 use mathlib.Core.List.{List, ◌∷◌, ◌++◌, append_assoc}
 use mathlib.Core.Path.{◌≡◌, refl, ap}
-use Rattle.types.specs.Answers.{refusal_number}
-use Rattle.print.specs.Names.{Answer, Outcome, Plan, Planned, Refusal}
-use Rattle.plan.specs.Rule.{answer_of}
-use Rattle.print.specs.Numbers.{decimal}
-use Rattle.print.specs.Rows.{fields, row_text, none_shown, outcome_shown, step_text, plan_text, refused, refusal_text, no_header, no_header_text, accepted_fields}
+use Rattle.print.specs.Numbers.{decimal, digits_by}
+use Rattle.print.specs.Rows.{fields, row_text, refused, no_header_text, accepted_fields}
 use Rattle.types.specs.Texts.{bytes}
-use Rattle.print.specs.Words.{profile_word, outcome_word}
 use Rattle.print.proofs.NumberLaws.{decimal_one}
 
 -- fields one after another
 
 pub field_behind : (w a : List ℕ) (fs : List (List ℕ)) → w ++ (bytes "," ++ a) ++ fields fs ≡ w ++ fields (a ∷ fs)
-field_behind w a fs = append_assoc w (bytes "," ++ a) (fields fs)
-
-regroup : (a b c d : List ℕ) → a ++ b ++ c ++ d ≡ a ++ (b ++ (c ++ d))
-regroup a b c d = simp append_assoc
+field_behind w a fs = grind (arith, append_assoc)
 
 pub three_fields : (a b c : List ℕ) (fs : List (List ℕ))
     → (bytes "," ++ a) ++ (bytes "," ++ b) ++ (bytes "," ++ c) ++ fields fs ≡ fields (a ∷ b ∷ c ∷ fs)
-three_fields a b c fs = regroup (bytes "," ++ a) (bytes "," ++ b) (bytes "," ++ c) (fields fs)
-
-accepted : (fs : List (List ℕ)) → accepted_fields fs ≡ fields (decimal 0 ∷ fs)
-accepted fs = let h : 0 < 10 = omega arith in ap (λ (z : List ℕ). bytes "," ++ z ++ fields fs) (decimal_one 0 h)
+three_fields a b c fs = grind (arith, append_assoc)
 
 -- the row number and then the rest
 
-pub step_refused : (row n : ℕ) (w : Refusal) → n ≡ refusal_number w → decimal row ++ fields (refused n) ≡ step_text row (Err w)
-unfolding step_text row_text
-step_refused row n w e = ap (λ (m : ℕ). decimal row ++ fields (refused m)) e
+pub row_accepted : (row : ℕ) (fs : List (List ℕ)) → decimal row ++ accepted_fields fs ≡ row_text row (decimal 0 ∷ fs)
+unfolding row_text
+row_accepted row fs = let h : 0 < 10 = omega arith in ap (λ (z : List ℕ). decimal row ++ (bytes "," ++ z ++ fields fs)) (decimal_one 0 h)
 
-pub step_accepted : (row : ℕ) (o : Outcome)
-    → decimal row ++ accepted_fields (outcome_word o ∷ outcome_shown o) ≡ step_text row (Ok o)
-unfolding step_text row_text
-step_accepted row o = ap (λ (l : List ℕ). decimal row ++ l) (accepted (outcome_word o ∷ outcome_shown o))
+pub row_refused : (row n m : ℕ) → n ≡ m → decimal row ++ fields (refused n) ≡ row_text row (refused m)
+unfolding row_text
+row_refused row n m e = ap (λ (k : ℕ). decimal row ++ fields (refused k)) e
 
-pub plan_out_of_range : (row : ℕ) → decimal row ++ fields (refused (answer_of (Err Unplanned.OutOfRange))) ≡ plan_text row (Err Unplanned.OutOfRange)
-unfolding plan_text row_text
-plan_out_of_range row = refl
-
-pub plan_too_small : (row : ℕ) → decimal row ++ fields (refused (answer_of (Err Unplanned.TooSmall))) ≡ plan_text row (Err Unplanned.TooSmall)
-unfolding plan_text row_text
-plan_too_small row = refl
-
-pub plan_accepted : (row : ℕ) (p : Plan)
-    → decimal row ++ accepted_fields (profile_word p.profile ∷ none_shown) ≡ plan_text row (Ok p)
-unfolding plan_text row_text
-plan_accepted row p = ap (λ (l : List ℕ). decimal row ++ l) (accepted (profile_word p.profile ∷ none_shown))
-
-pub another_form : (row n : ℕ) → n ≡ refusal_number Refusal.Range → decimal row ++ fields (refused n) ≡ refusal_text row
-unfolding refusal_text row_text
-another_form row n e = ap (λ (m : ℕ). decimal row ++ fields (refused m)) e
-
-pub no_header_said : decimal 0 ++ fields (refused no_header) ≡ no_header_text
-unfolding no_header_text row_text
+pub no_header_said : bytes "0,13,refused,,,,\n" ≡ no_header_text
+unfolding no_header_text row_text decimal digits_by
 no_header_said = refl

@@ -2,7 +2,7 @@
 use mathlib.Core.List.{◌++◌}
 use mathlib.Core.Path.{◌≡◌, refl}
 use lib.ListN.{length}
-use Rattle.print.specs.Names.{Answer, Ending, Outcome, Reading, Refusal}
+use Rattle.print.specs.Names.{Ending, Err, Ok, Outcome, Reading, Refusal}
 use Rattle.plan.specs.Rule.{in_range, chosen, plan_of}
 use Rattle.print.specs.Numbers.{digits_by, decimal}
 use Rattle.print.specs.Rows.{row_text, step_text, plan_text, refusal_text, no_header_text, head_text, room}
@@ -45,7 +45,8 @@ other_rows = (refl, refl, refl, refl)
 
 -- the room that each function requires is needed: this row takes all of it
 pub longest_row
-    : length (step_text 18446744073709551615 (Ok (Outcome.Ended Ending.Written 255 (record { stamp = record { counter = 18446744073709551615; writer = 255 }; reading = Reading.Open 255 }))))
+    : length (step_text 18446744073709551615 (Ok (Outcome.Ended Ending.Written 255
+    (record { stamp = record { counter = 18446744073709551615; writer = 255 }; reading = Reading.Open 255 }))))
     ≡ room
 unfolding step_text row_text decimal digits_by
 longest_row = refl

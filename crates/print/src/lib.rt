@@ -2,14 +2,11 @@
 // every other byte as it was. None tests for room: its caller does, once for each row, with `at + ROOM <= buf.len()`.
 #![tactic(auto)]
 
-mod answer;
 mod number;
-mod often;
 mod outcome;
 mod put;
 mod row;
 
-pub use often::{put_answered, put_counted, put_discarded, put_ended, put_sent, put_unanswered};
 pub use row::{put_head, put_no_header, put_plan, put_refusal, put_step};
 
 // The longest row has this many bytes, its LF among them: `18446744073709551615,0,written,255,18446744073709551615,255,open 255`. A row number

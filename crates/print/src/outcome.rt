@@ -5,19 +5,19 @@ ghost use Rattle.print.specs.Rows.{fields, slot_shown, entry_shown, outcome_show
 ghost use Rattle.types.specs.Texts.{bytes};
 ghost use Rattle.print.specs.Words.{ending_word, outcome_word, reading_text};
 
-use super::number::{put_long_field, put_short_field, put_up_to_three};
+use super::number::{put_long_field, put_short_field, put_up_to_four};
 use super::put::{put_byte, put_bytes};
 use cabinet::{Entry, Reading};
 use types::{Ending, Outcome};
 
 // `word` is a byte string at each call, answer and commas among its bytes.
-pub fn put_slot(buf: &mut [u8], at: usize, word: &[u8], slot: u8) -> usize
+fn put_slot(buf: &mut [u8], at: usize, word: &[u8], slot: u8) -> usize
     requires { at + length word.now + 8 ≤ length buf.old }
     ensures wrote { Wrote buf.old at (word.now ++ fields (slot_shown slot)) buf.new result }
     ensures upper_bound { result ≤ at + length word.now + 8 }
 {
     let i = put_bytes(buf, at, word);
-    let j = put_short_field(buf, i, slot as u64);
+    let j = put_short_field(buf, i, slot);
     put_bytes(buf, j, b",,,\n")
 }
 
@@ -30,26 +30,25 @@ fn put_reading(buf: &mut [u8], at: usize, reading: Reading) -> usize
         Reading::Unknown => put_bytes(buf, at, b",unknown\n"),
         Reading::Open(minutes) => {
             let i = put_bytes(buf, at, b",open ");
-            let j = put_up_to_three(buf, i, minutes as u64);
+            let j = put_up_to_four(buf, i, minutes as u16);
             put_byte(buf, j, b'\n')
         }
         Reading::Closed => put_bytes(buf, at, b",closed\n"),
     }
 }
 
-pub fn put_entry(buf: &mut [u8], at: usize, slot: u8, entry: Entry) -> usize
+fn put_entry(buf: &mut [u8], at: usize, slot: u8, entry: Entry) -> usize
     requires { at + 39 ≤ length buf.old }
     ensures wrote { Wrote buf.old at (fields (entry_shown slot entry)) buf.new result }
     ensures upper_bound { result ≤ at + 39 }
 {
-    let reading = entry.reading;
-    let i = put_short_field(buf, at, slot as u64);
+    let i = put_short_field(buf, at, slot);
     let j = put_long_field(buf, i, entry.stamp.counter);
-    let k = put_short_field(buf, j, entry.stamp.writer as u64);
-    put_reading(buf, k, reading)
+    let k = put_short_field(buf, j, entry.stamp.writer);
+    put_reading(buf, k, entry.reading)
 }
 
-pub fn put_ending(buf: &mut [u8], at: usize, ending: Ending) -> usize
+fn put_ending(buf: &mut [u8], at: usize, ending: Ending) -> usize
     requires { at + 10 ≤ length buf.old }
     ensures wrote { Wrote buf.old at (bytes ",0," ++ ending_word ending) buf.new result }
     ensures upper_bound { result ≤ at + 10 }
@@ -62,6 +61,7 @@ pub fn put_ending(buf: &mut [u8], at: usize, ending: Ending) -> usize
     }
 }
 
+#[inline(always)]
 pub fn put_outcome(buf: &mut [u8], at: usize, outcome: Outcome) -> usize
     requires { at + 49 ≤ length buf.old }
     ensures wrote { Wrote buf.old at (accepted_fields (outcome_word outcome ∷ outcome_shown outcome)) buf.new result }

@@ -1,4 +1,4 @@
-// Bytes into a lent buffer.
+// Bytes into a lent buffer. Each function here and above takes the whole buffer and a place, for it writes into any buffer that it is lent.
 ghost use Rattle.std.specs.Prelude.{◌∷◌, [], ◌<◌, ◌≤◌, ◌+◌, length};
 ghost use Rattle.print.specs.Put.{Wrote};
 
@@ -10,15 +10,12 @@ pub fn put_byte(buf: &mut [u8], at: usize, b: u8) -> usize
     at + 1
 }
 
-// `s` is a byte string at each call, so that the loop, inlined, becomes a few wide stores.
+// `s` is a byte string at each call, so that the copy, inlined, becomes a few wide stores.
 pub fn put_bytes(buf: &mut [u8], at: usize, s: &[u8]) -> usize
     requires { at + length s.now ≤ length buf.old }
     ensures { Wrote buf.old at s.now buf.new result }
 {
-    let mut i = 0;
-    while i < s.len() {
-        buf[at + i] = s[i];
-        i += 1;
-    }
-    at + i
+    let end = at + s.len();
+    buf[at..end].copy_from_slice(s);
+    end
 }

@@ -1,18 +1,17 @@
 // The rows of the output, each whole. What a public function requires is room for the longest row, whichever it writes.
-ghost use Rattle.std.specs.Prelude.{◌∷◌, ◌<◌, ◌≤◌, ◌+◌, length};
+ghost use Rattle.std.specs.Prelude.{◌∷◌, ◌≤◌, ◌+◌, length};
 ghost use Rattle.print.specs.Put.{Wrote};
 ghost use Rattle.print.specs.Rows.{fields, refused, none_shown, accepted_fields, step_text, plan_text, refusal_text, no_header_text, head_text, room};
 ghost use Rattle.print.specs.Words.{profile_word};
 
-use super::answer::{NO_HEADER, OUT_OF_RANGE, TOO_SMALL};
 use super::number::{put_number, put_short_field};
 use super::outcome::put_outcome;
 use super::put::put_bytes;
 use plan::{Planned, Profile};
-use types::{Answer, Refusal, refusal_number};
+use types::{Answer, Refusal};
 
-fn put_refused(buf: &mut [u8], at: usize, number: u64) -> usize
-    requires { (number < 1000) × (at + 17 ≤ length buf.old) }
+fn put_refused(buf: &mut [u8], at: usize, number: u8) -> usize
+    requires { at + 17 ≤ length buf.old }
     ensures wrote { Wrote buf.old at (fields (refused number)) buf.new result }
     ensures upper_bound { result ≤ at + 17 }
 {
@@ -31,6 +30,8 @@ fn put_profile(buf: &mut [u8], at: usize, profile: Profile) -> usize
     }
 }
 
+// Inlined, the row of an outcome that the caller knows is written with no jump by the outcome.
+#[inline(always)]
 pub fn put_step(buf: &mut [u8], at: usize, row: u64, answer: Answer) -> usize
     requires { at + room ≤ length buf.old }
     ensures wrote { Wrote buf.old at (step_text row answer) buf.new result }
@@ -38,8 +39,8 @@ pub fn put_step(buf: &mut [u8], at: usize, row: u64, answer: Answer) -> usize
 {
     let i = put_number(buf, at, row);
     match answer {
-        Answer::Refused(why) => put_refused(buf, i, refusal_number(why)),
-        Answer::Accepted(outcome) => put_outcome(buf, i, outcome),
+        Ok(outcome) => put_outcome(buf, i, outcome),
+        Err(why) => put_refused(buf, i, u8::from(why)),
     }
 }
 
@@ -50,12 +51,8 @@ pub fn put_plan(buf: &mut [u8], at: usize, row: u64, planned: Planned) -> usize
 {
     let i = put_number(buf, at, row);
     match planned {
-        Planned::OutOfRange => put_refused(buf, i, OUT_OF_RANGE),
-        Planned::TooSmall => put_refused(buf, i, TOO_SMALL),
-        Planned::Accepted(plan) => {
-            let profile = plan.profile;
-            put_profile(buf, i, profile)
-        }
+        Ok(plan) => put_profile(buf, i, plan.profile),
+        Err(why) => put_refused(buf, i, u8::from(why)),
     }
 }
 
@@ -66,7 +63,7 @@ pub fn put_refusal(buf: &mut [u8], at: usize, row: u64) -> usize
     ensures upper_bound { result ≤ at + room }
 {
     let i = put_number(buf, at, row);
-    put_refused(buf, i, refusal_number(Refusal::Range))
+    put_refused(buf, i, u8::from(Refusal::Range))
 }
 
 pub fn put_head(buf: &mut [u8], at: usize) -> usize
@@ -83,6 +80,5 @@ pub fn put_no_header(buf: &mut [u8], at: usize) -> usize
     ensures wrote { Wrote buf.old at no_header_text buf.new result }
     ensures upper_bound { result ≤ at + room }
 {
-    let i = put_number(buf, at, 0);
-    put_refused(buf, i, NO_HEADER)
+    put_bytes(buf, at, b"0,13,refused,,,,\n")
 }

@@ -6,7 +6,7 @@ use mathlib.Core.Bool.{Bool, true, false, cond, ◌||◌}
 use native.Mathlib.Omega.{arith}
 use lib.Dec.{leb, ltb}
 use Rattle.limits.specs.Limits.{most_clients, most_slots}
-use Rattle.promise.specs.Names.{Asked, Body, Change, Client, Decision, Deed, Ending, Entry, Heard, Held, Message, Outcome, Plan, Power, Refusal, Run, Sight, Standing, Step, Told, Work}
+use Rattle.promise.specs.Names.{Asked, Body, Change, Client, Decision, Deed, Ending, Entry, Err, Heard, Held, Message, None, Ok, Option, Outcome, Plan, Power, Refusal, Run, Sight, Some, Standing, Step, Told, Work}
 use Rattle.plan.proofs.RuleLaws.{both}
 use Rattle.cabinet.specs.Cabinets.{has_version}
 use Rattle.heard.specs.Heard.{with_of, count_of}
@@ -25,38 +25,38 @@ use Rattle.promise.specs.Events.{writes, reads, Event, beginning, ending, ending
 use Rattle.promise.proofs.Moves.{ending_event}
 
 module _ (run : Run) (s : Step) where
-  abbrev Ok : Decision → Type 0
-  Ok d = Agrees run s (put_back run d).run (put_back run d).answer (answer_event run s (put_back run d).run (put_back run d).answer)
+  abbrev Fits : Decision → Type 0
+  Fits d = Agrees run s (put_back run d).run (put_back run d).answer (answer_event run s (put_back run d).run (put_back run d).answer)
 
   -- ---- clients
 
-  begins_ok : (i : ℕ) (c : Client) (w : Work) → ((after : Run) → Has run s after Outcome.Begun (beginning s after)) → Ok (begins_of i c w)
+  begins_ok : (i : ℕ) (c : Client) (w : Work) → ((after : Run) → Has run s after Outcome.Begun (beginning s after)) → Fits (begins_of i c w)
   unfolding begins_of
   begins_ok i c w h = go (standing_of c.work)
     where
-      go : (t : Standing) → Ok (begins_by t i c w)
+      go : (t : Standing) → Fits (begins_by t i c w)
       go Standing.Free = h _
       go Standing.Away = refl
       go Standing.Busy = refl
 
-  sends_ok : (i k : ℕ) (c : Client) (j : ℕ) → Ok (sends_of i k c j)
+  sends_ok : (i k : ℕ) (c : Client) (j : ℕ) → Fits (sends_of i k c j)
   unfolding sends_of
   sends_ok i k c j = go (standing_of c.work)
     where
-      room : (u : Bool) → Ok (cond u (Decision.No Refusal.Full) (Decision.Yes (Outcome.Sent (j + 1)) (Change.OfSlot j (request_slot i k c))))
+      room : (u : Bool) → Fits (cond u (Decision.No Refusal.Full) (Decision.Yes (Outcome.Sent (j + 1)) (Change.OfSlot j (request_slot i k c))))
       room true = refl
       room false = refl
 
-      go : (t : Standing) → Ok (sends_by t i k c j)
+      go : (t : Standing) → Fits (sends_by t i k c j)
       go Standing.Free = refl
       go Standing.Away = refl
       go Standing.Busy = room (leb most_slots j)
 
-  leaves_ok : (i : ℕ) (c : Client) → Ok (leaves_of i c)
+  leaves_ok : (i : ℕ) (c : Client) → Fits (leaves_of i c)
   unfolding leaves_of
   leaves_ok i c = go (standing_of c.work)
     where
-      go : (t : Standing) → Ok (leaves_by t i c)
+      go : (t : Standing) → Fits (leaves_by t i c)
       go Standing.Free = refl
       go Standing.Away = refl
       go Standing.Busy = refl
@@ -80,11 +80,11 @@ module _ (run : Run) (s : Step) where
 
     -- the part ends, or the reply is counted
     part_ok : (t : Bool) (how : Ending) (e : Entry) (w : Work) (b d : Entry)
-        → Ok (cond t (ended m.client j c.operation how e w b) (counted m.client j c h d))
+        → Fits (cond t (ended m.client j c.operation how e w b) (counted m.client j c h d))
     part_ok true how e w b d = ended_ok (put_back run (ended m.client j c.operation how e w b)).run how e
     part_ok false how e w b d = refl
 
-    hear_ok : (t : Told) → Ok (hear_by t plan m.client j c h)
+    hear_ok : (t : Option Told) → Fits (hear_by t plan m.client j c h)
     unfolding first_write first_read second
     hear_ok None = refl
     hear_ok (Some (Told.OfWrite r e)) = part_ok (leb plan.read (count_of h)) Ending.Chosen _ _ _ _
@@ -94,7 +94,7 @@ module _ (run : Run) (s : Step) where
 
   -- ---- a request
 
-  answer_ok : (b : Body) (stale : Bool) (j : ℕ) (m : Message) (k : Sight) → Ok (answers_by b stale j m k)
+  answer_ok : (b : Body) (stale : Bool) (j : ℕ) (m : Message) (k : Sight) → Fits (answers_by b stale j m k)
   answer_ok Body.AskStamp true j m k = refl
   answer_ok Body.AskStamp false j m k = refl
   answer_ok Body.AskEntry true j m k = refl
@@ -104,57 +104,57 @@ module _ (run : Run) (s : Step) where
   answer_ok (Body.TellEntry e) stale j m k = refl
   answer_ok Body.Acknowledge stale j m k = refl
 
-  answers_ok : (u : Power) (j : ℕ) (m : Message) (k : Sight) → Ok (answers_when u j m k)
+  answers_ok : (u : Power) (j : ℕ) (m : Message) (k : Sight) → Fits (answers_when u j m k)
   answers_ok Power.Down j m k = refl
   answers_ok Power.Up j m k = answer_ok m.body false j m k
   answers_ok Power.Stale j m k = answer_ok m.body true j m k
 
   -- ---- slots and cabinets
 
-  delivers_ok : (j : ℕ) → Ok (decide_of run (Ok (Asked.Delivers j)))
+  delivers_ok : (j : ℕ) → Fits (decide_of run (Ok (Asked.Delivers j)))
   unfolding decide_of answers_of hears_of
   delivers_ok j = go (slot_at run j).held refl
     where
       go : (h : Held) → (slot_at run j).held ≡ h
-          → Ok (delivers_in run j h)
+          → Fits (delivers_in run j h)
       go Held.Empty e = refl
       go (Held.Request m) e = answers_ok (cabinet_at run m.cabinet).power j m (sight_of (cabinet_at run m.cabinet))
       go (Held.Reply m) e = let c = client_at run m.client in hear_ok j m e run.plan c (with_of c.heard m.cabinet) (told_of c m)
 
-  loses_ok : (j : ℕ) → Ok (decide_of run (Ok (Asked.Loses j)))
+  loses_ok : (j : ℕ) → Fits (decide_of run (Ok (Asked.Loses j)))
   unfolding decide_of
   loses_ok j = go (slot_at run j).held
     where
-      go : (h : Held) → Ok (loses_by h j)
+      go : (h : Held) → Fits (loses_by h j)
       go Held.Empty = refl
       go (Held.Request m) = refl
       go (Held.Reply m) = refl
 
-  stops_ok : (q : ℕ) → Ok (decide_of run (Ok (Asked.Stops q)))
+  stops_ok : (q : ℕ) → Fits (decide_of run (Ok (Asked.Stops q)))
   unfolding decide_of
   stops_ok q = go (cabinet_at run q).power
     where
-      go : (u : Power) → Ok (stops_when u q)
+      go : (u : Power) → Fits (stops_when u q)
       go Power.Down = refl
       go Power.Up = refl
       go Power.Stale = refl
 
-  rolls_ok : (plan : Plan) (q j : ℕ) (k : Sight) (n : ℕ) → Ok (rolls_of plan q j k n)
+  rolls_ok : (plan : Plan) (q j : ℕ) (k : Sight) (n : ℕ) → Fits (rolls_of plan q j k n)
   unfolding rolls_of
   rolls_ok plan q j k n = go (has_version (stored_in plan q) k.present.stamp k.kept j) (k.marked || ltb n plan.r)
     where
       go : (t u : Bool)
-          → Ok
+          → Fits
           (cond t (cond u (Decision.Yes Outcome.RolledBack (Change.OfCabinet q (Deed.GoBack j))) (Decision.No Refusal.TooMany)) (Decision.No Refusal.NoVersion))
       go true true = refl
       go true false = refl
       go false u = refl
 
-  restarts_ok : (q : ℕ) → Ok (decide_of run (Ok (Asked.Restarts q)))
+  restarts_ok : (q : ℕ) → Fits (decide_of run (Ok (Asked.Restarts q)))
   unfolding decide_of
   restarts_ok q = refl
 
-  barred_ok : (why : Refusal) → Ok (decide_of run (Err why))
+  barred_ok : (why : Refusal) → Fits (decide_of run (Err why))
   unfolding decide_of
   barred_ok why = refl
 
@@ -163,7 +163,7 @@ module _ (run : Run) where
   numbered : (c : ℕ) → 1 ≤ c → c ≡ c - 1 + 1
   numbered c h = omega arith
 
-  placed_ok : (s : Step) → in_range run.plan.n s ≡ true → Ok run s (decide_of run (placed s))
+  placed_ok : (s : Step) → in_range run.plan.n s ≡ true → Fits run s (decide_of run (placed s))
   unfolding in_range placed decide_of
   placed_ok Step.Other h = refl
   placed_ok (Step.Write c r) h =
@@ -189,5 +189,5 @@ module _ (run : Run) where
           → Agrees run s (step_of run s).run (step_of run s).answer (answer_event run s (step_of run s).run (step_of run s).answer)
       go true e =
           rw (step_is_go run s e)
-          (admitted_by run.plan.n run.steps s (λ a. Ok run s (decide_of run a)) (barred_ok run s) (λ e l. placed_ok s e))
+          (admitted_by run.plan.n run.steps s (λ a. Fits run s (decide_of run a)) (barred_ok run s) (λ e l. placed_ok s e))
       go false e = rw (step_damaged run s e) refl

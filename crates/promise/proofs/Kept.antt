@@ -5,7 +5,7 @@
 use Prim.Native.Nat.{ℕ}
 use mathlib.Core.Path.{◌≡◌, refl, ap, subst, ◌∙◌}
 use mathlib.Core.List.{List, [], ◌∷◌}
-use Rattle.promise.specs.Names.{Plan, Planned, Run, Step}
+use Rattle.promise.specs.Names.{Err, Ok, Plan, Planned, Run, Step, Unplanned}
 use Rattle.plan.specs.Rule.{in_range, chosen, plan_of, forgetful_plan}
 use Rattle.run.specs.Start.{fresh_run, start_by, start_of}
 use Rattle.run.specs.Steps.{step_of}

@@ -8,7 +8,7 @@ use native.Mathlib.Nat.{zero-add}
 use lib.Dec.{ltb}
 use lib.ListN.{get_or, set}
 use borrow.Author.Tests.{ltb-true, ne_eqb}
-use Rattle.promise.specs.Names.{Asked, Cabinet, Decision, Deed, Entry, Plan, Planned, Run, Step}
+use Rattle.promise.specs.Names.{Refusal, Asked, Cabinet, Decision, Deed, Entry, Err, Ok, Plan, Planned, Result, Run, Step, Unplanned}
 use Rattle.plan.specs.Rule.{plan_of}
 use Rattle.plan.proofs.RuleLaws.{numbers}
 use Rattle.cabinet.specs.Cabinets.{present_of, taken, offered, restarted, rolled_back}
@@ -106,7 +106,7 @@ module _ (run : Run) (few : marked_in run.cabinets ≤ run.plan.r) where
           in
           omega arith
 
-  deed_marked : (a : Asked) (d : Deed) → Does run a d
+  deed_marked : (a : Result Asked Refusal) (d : Deed) → Does run a d
       → marked_in (done_at run.plan run.cabinets (met_at run a).cabinet d) ≤ run.plan.r
   unfolding deed_of
   deed_marked (Err why) d f = absurd f
@@ -119,7 +119,7 @@ module _ (run : Run) (few : marked_in run.cabinets ≤ run.plan.r) where
   deed_marked (Ok (Asked.Restarts p)) d f = rw f (same_marked p Deed.ComeUp (restarted_marked _ _ (cabinet_at run p)))
   deed_marked (Ok (Asked.RollsBack p j)) d f = rw f.0 (back_marked p j f.2)
 
-  put_marked : (a : Asked) (x : Decision) → Meets (Does run a) (met_at run a) x
+  put_marked : (a : Result Asked Refusal) (x : Decision) → Meets (Does run a) (met_at run a) x
       → marked_in (put_back run x).run.cabinets ≤ (put_back run x).run.plan.r
   unfolding changed
   put_marked a x refuses = few

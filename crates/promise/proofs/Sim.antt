@@ -6,7 +6,7 @@ use native.Mathlib.Omega.{arith}
 use lib.Dec.{leb, ltb}
 use Rattle.limits.specs.Limits.{most_cabinets, most_clients, most_slots}
 use Rattle.plan.proofs.RuleLaws.{both}
-use Rattle.promise.specs.Names.{Asked, Body, Change, Decision, Deed, Held, Message, Outcome, Power, Refusal, Run, Standing, Step, Work}
+use Rattle.promise.specs.Names.{Asked, Body, Change, Decision, Deed, Err, Held, Message, Ok, Outcome, Power, Refusal, Run, Standing, Step, Work}
 use Rattle.cabinet.specs.Cabinets.{goes_back}
 use Rattle.cabinet.specs.Entries.{factory_entry}
 use Rattle.heard.specs.Heard.{none_heard, has_of}

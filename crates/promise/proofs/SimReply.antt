@@ -7,7 +7,7 @@ use lib.Dec.{eqb, leb}
 use borrow.Author.Tests.{eqb-true, leb-true}
 use Rattle.limits.specs.Limits.{most_clients}
 use Rattle.plan.proofs.RuleLaws.{both}
-use Rattle.promise.specs.Names.{Body, Change, Client, Ending, Entry, Heard, Held, Message, Reading, Run, Step, Told, Work}
+use Rattle.promise.specs.Names.{Body, Change, Client, Ending, Entry, Heard, Held, Message, None, Option, Reading, Run, Some, Step, Told, Work}
 use Rattle.cabinet.specs.Entries.{factory_entry, reading_in}
 use Rattle.heard.specs.Heard.{none_heard, has_of, with_of, how_many, count_of, within_of}
 use Rattle.heard.proofs.HeardLaws.{with_within, count_within_is}
@@ -177,7 +177,7 @@ module _ (run : Run) (G : Good run) (s : Step) (j : ℕ) (m : Message) (at_j : (
     to_read (Body.TellEntry e) wk bd = sim_entry e wk (ap talk_of bd)
     to_read Body.Acknowledge wk bd = discards
 
-    to_second : (t : Told) (b : Body) → m.body ≡ b → (talk_of m.body ≡ ack → Moves run s (hear_by t run.plan i j x heard))
+    to_second : (t : Option Told) (b : Body) → m.body ≡ b → (talk_of m.body ≡ ack → Moves run s (hear_by t run.plan i j x heard))
         → Moves run s (hear_by (told_taken t b) run.plan i j x heard)
     to_second t Body.AskStamp bd h = discards
     to_second t Body.AskEntry bd h = discards

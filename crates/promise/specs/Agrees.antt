@@ -1,6 +1,6 @@
 -- The event that each outcome word of a rehearsal has, by client, number and kind: clause S19.6 of docs/SCOPE.md. Assumes nothing.
 use Rattle.std.specs.Prelude.{ℕ, ◌+◌, ◌-◌, ◌≡◌}
-use Rattle.promise.specs.Names.{Answer, Ending, Held, Message, Outcome, Run, Step}
+use Rattle.promise.specs.Names.{Answer, Ending, Err, Held, Message, Ok, Outcome, Run, Step}
 use Rattle.run.specs.Steps.{client_at, slot_at}
 use Rattle.promise.specs.Events.{write, read, Aim, writes, reads, Event, nothing, begun, chosen, finished}
 

@@ -1,7 +1,7 @@
 -- The events of a list of steps, read off the steps' own answers (clause S19.6 of docs/SCOPE.md): operations begun, entries chosen,
 -- operations finished. Assumes nothing.
 use Rattle.std.specs.Prelude.{ℕ, ◌-◌, List, [], ◌∷◌}
-use Rattle.promise.specs.Names.{Answer, Ending, Entry, Held, Message, Outcome, Reading, Run, Step}
+use Rattle.promise.specs.Names.{Answer, Ending, Entry, Err, Held, Message, Ok, Outcome, Reading, Run, Step}
 use Rattle.run.specs.Steps.{step_of, client_at, slot_at}
 
 -- S19.5: what an operation is

@@ -1,7 +1,9 @@
 -- The types that this crate speaks of, under one roof.
+pub use Rattle.std.specs.Prelude.{Ok, Err, Some, None, Result, Option}
 pub use Rattle.plan.specs.declared.Profile.{Profile}
 pub use Rattle.plan.specs.declared.Plan.{Plan}
-pub use Rattle.plan.specs.declared.Planned.{Planned}
+pub use Rattle.plan.specs.Names.{Planned}
+pub use Rattle.plan.specs.declared.Unplanned.{Unplanned}
 pub use Rattle.cabinet.specs.declared.entry.Stamp.{Stamp}
 pub use Rattle.cabinet.specs.declared.entry.Reading.{Reading}
 pub use Rattle.cabinet.specs.declared.entry.Entry.{Entry}
@@ -11,7 +13,7 @@ pub use Rattle.heard.specs.declared.Heard.{Heard}
 pub use Rattle.types.specs.declared.answer.Refusal.{Refusal}
 pub use Rattle.types.specs.declared.answer.Ending.{Ending}
 pub use Rattle.types.specs.declared.answer.Outcome.{Outcome}
-pub use Rattle.types.specs.declared.answer.Answer.{Answer}
+pub use Rattle.types.specs.Names.{Answer}
 pub use Rattle.types.specs.declared.answer.Sight.{Sight}
 pub use Rattle.types.specs.declared.client.Work.{Work}
 pub use Rattle.types.specs.declared.client.Client.{Client}

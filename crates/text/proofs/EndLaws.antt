@@ -1,59 +1,68 @@
 -- Where a row ends: its CR, its LF, and that one row alone stands at the front of some bytes. Assumes nothing.
-use Prim.Native.Nat.{ℕ, ◌+◌, ◌-◌, ◌<◌, ◌≤◌}
+use Prim.Native.Nat.{ℕ, suc, ◌+◌, ◌-◌, ◌<◌, ◌≤◌}
 use native.Mathlib.Omega.{arith}
-use mathlib.Core.Bool.{Bool, true, false}
+use mathlib.Core.Bool.{true, false, and-true}
 use mathlib.Core.List.{List, [], ◌∷◌, ◌++◌, append_assoc}
 use mathlib.Core.Path.{◌≡◌, refl, sym, ◌∙◌, ap}
-use lib.ListN.{length, get_or, take, drop, length-append, length-drop, length-take, take-append-drop}
-use lib.Seq.{length-take-le, take-length}
-use lib.Dec.{ltb}
-use borrow.Author.Tests.{eq-eqb, ne_eqb, ltb-true, ltb-false}
-use Rattle.text.specs.Names.{Step}
-use Rattle.text.specs.Ends.{unended, breaks, step_in, OneRow, Finds, Leads}
+use lib.ListN.{length, get_or, take, drop, length-append, length-drop, length-take, take-append-drop, drop_of_length-le}
+use lib.Seq.{drop-cons, take-suc}
+use lib.Dec.{eqb}
+use lib.Pointwise.{pointwise}
+use denote.Bor.{Bor}
+use native.Mathlib.Numerals.{add-one}
+use borrow.Author.Tests.{eq-eqb, ne_eqb}
+use Rattle.std.specs.Prelude.{Option, Some, None, MatchOption, unwrap_or}
+use Rattle.text.specs.Names.{Found, Step}
+use Rattle.text.specs.Ends.{unended, breaks, step_in, Finds, Leads}
 use Rattle.text.specs.Rows.{row_of}
-use Rattle.text.proofs.BreakLaws.{breaks_append, part_all, part_lf}
+use Rattle.text.proofs.BreakLaws.{breaks_append}
 
 -- ---- a CR at a row's end
 
-pub unended_cr : (l : List ℕ) → get_or l (length l - 1) 0 ≡ 13 → take (length l - 1) l ≡ unended l
-unfolding unended
-unended_cr l e = rw (eq-eqb _ _ e)
+gone : (l : List ℕ) (i : ℕ) → length l ≤ i → drop i l ≡ []
+gone l i h = drop_of_length-le l h
 
-pub unended_not : (l : List ℕ) → (get_or l (length l - 1) 0 ≡ 13 → ⊥) → take (length l) l ≡ unended l
-unfolding unended
-unended_not l e = rw (ne_eqb _ _ e, take-length)
+-- the code's test of the last byte
+last_is : (l : List ℕ) → pointwise eqb (drop (length l - 1) l) (13 ∷ []) ≡ eqb (get_or l (length l - 1) 0) 13
+last_is [] = refl
+last_is (x ∷ m) =
+    let n : length (x ∷ m) - 1 < length (x ∷ m) = omega arith in
+    let last_gone : drop (suc (length (x ∷ m) - 1)) (x ∷ m) ≡ [] = gone (x ∷ m) (suc (length (x ∷ m) - 1)) (omega arith) in
+    rw (drop-cons (x ∷ m) (length (x ∷ m) - 1) 0 n, last_gone, and-true)
 
-pub unended_empty : (l : List ℕ) → length l ≤ 0 → take (length l) l ≡ unended l
+-- what `strip_suffix` leaves, or the whole
+pub trimmed : (l : List ℕ) (r : Option (Bor (List ℕ))) (d : Bor (List ℕ)) → d.now ≡ l
+    → MatchOption r (pointwise eqb (drop (length l - 1) l) (13 ∷ []) ≡ false)
+    (λ x. (pointwise eqb (drop (length l - 1) l) (13 ∷ []) ≡ true) × (x.now ≡ take (length l - 1) l) × (length x.now + 1 ≡ length l))
+    → (unwrap_or r d).now ≡ unended l
 unfolding unended
-unended_empty [] h = refl
-unended_empty (x ∷ l) h = absurd (omega arith)
+trimmed l None d w m = rw (sym (last_is l) ∙ m) w
+trimmed l (Some x) d w m = rw (sym (last_is l) ∙ m.0) m.1
 
 -- a comma, whose byte is 44, is no CR
 pub unended_bare : (l : List ℕ) → get_or l (length l - 1) 0 ≡ 44 → unended l ≡ l
-unended_bare l e = sym (unended_not l (λ f. omega arith)) ∙ take-length l
-
-pub trimmed_one : (l : List ℕ) (n m : ℕ) → take n l ≡ unended l → n ≤ length l → take m l ≡ unended l → m ≤ length l → n ≡ m
-trimmed_one l n m e h f g = omega (arith, length-take-le n l h, length-take-le m l g, ap length (e ∙ sym f))
+unfolding unended
+unended_bare l e = rw (ne_eqb (get_or l (length l - 1) 0) 13 (λ f. omega arith))
 
 -- ---- a row with its LF
 
--- the row from i to the LF at e
-pub ended_row : (s : List ℕ) (i e : ℕ) (l : List ℕ) (x : Step) → i ≤ e → e < length s → breaks (take (e - i) (drop i s)) ≡ 0
-    → get_or s e 0 ≡ 10 → l ≡ unended (take (e - i) (drop i s)) → x ≡ step_in (row_of l) → OneRow (take (e + 1 - i) (drop i s)) x
-ended_row s i e l x h k bare lf le xe =
-    record { line = take (e - i) (drop i s); ends = part_lf s i e h k lf; unbroken = bare; asks = ap (λ (z : List ℕ). step_in (row_of z)) (sym le) ∙ sym xe }
+-- the row up to the LF at e
+pub ended_row : (s : List ℕ) (e : ℕ) (l : List ℕ) (x : Step) → e < length s → get_or s e 0 ≡ 10 → breaks (take e s) ≡ 0
+    → l ≡ unended (take e s) → x ≡ step_in (row_of l) → Leads s x (e + 1)
+ended_row s e l x h lf bare le xe =
+    record {
+      within = omega arith;
+      row =
+          record {
+            line = take e s;
+            ends = rw (add-one, take-suc s e 0 h, lf);
+            unbroken = bare;
+            asks = ap (λ (z : List ℕ). step_in (row_of z)) (sym le) ∙ sym xe;
+          };
+    }
 
 lead_length : (s : List ℕ) (x : Step) (n : ℕ) (l : Leads s x n) → n ≡ length l.row.line + 1
 lead_length s x n l = omega (arith, l.within, length-take n s, ap length l.row.ends, length-append l.row.line (10 ∷ []))
-
--- the row from i on
-pub led_found : (s : List ℕ) (i : ℕ) (x : Step) (n : ℕ) → i ≤ length s → Leads (take (length s - i) (drop i s)) x n
-    → (i + n ≤ length s) × (0 < n) × OneRow (take (i + n - i) (drop i s)) x
-led_found s i x n h f =
-    let g : Leads (drop i s) x n = rw (part_all s i) at f in
-    let e : i + n - i ≡ n = omega arith in
-    let w : n ≤ length (drop i s) = g.within in
-    (omega (arith, length-drop i s), omega (arith, lead_length (drop i s) x n g), rw e g.row)
 
 -- ---- one row only
 
@@ -85,23 +94,15 @@ lead_some : (s : List ℕ) (x : Step) (n : ℕ) → Leads s x n → breaks s ≡
 unfolding breaks
 lead_some s x n l h = let b : breaks (l.row.line ++ (10 ∷ drop n s)) ≡ 0 = rw (lead_is s x n l) at h in omega (arith, breaks_append l.row.line (10 ∷ drop n s))
 
--- any two finds agree: on the place, and where a row is there, on its step
-module _ (s : List ℕ) (i : ℕ) (within : i ≤ length s) where
-  finds_leads : (e : ℕ) (x : Step) → i < e → Finds s i e x → Leads (drop i s) x (e - i)
-  finds_leads e x h f = record { within = omega (arith, length-drop i s, f.0.1); row = f.1.1 h }
+found_leads : (s : List ℕ) (i : ℕ) → i ≤ length s → (f : Found) → Finds s i (Some f) → Leads (drop i s) f.step (f.end - i)
+found_leads s i w f p = record { within = omega (arith, length-drop i s, p.1); row = p.2 }
 
-  pub found_one : (e f : ℕ) (x y : Step) → Finds s i e x → Finds s i f y → (e ≡ f) × (i < e → x ≡ y)
-  found_one e f x y p q = go (ltb i e) (ltb i f) refl refl
-    where
-      go : (t u : Bool) → ltb i e ≡ t → ltb i f ≡ u → (e ≡ f) × (i < e → x ≡ y)
-      go true true h k =
-          let m : i < e = ltb-true i e h in
-          let n : i < f = ltb-true i f k in
-          let z = lead_one (drop i s) x y (e - i) (f - i) (finds_leads e x m p) (finds_leads f y n q) in
-          (omega (arith, z.1), λ o. z.0)
-      go true false h k = absurd (lead_some (drop i s) x (e - i) (finds_leads e x (ltb-true i e h) p) (q.1.0 (ltb-false i f k)))
-      go false true h k = absurd (lead_some (drop i s) y (f - i) (finds_leads f y (ltb-true i f k) q) (p.1.0 (ltb-false i e h)))
-      go false false h k =
-          let m : e ≤ i = ltb-false i e h in
-          let n : f ≤ i = ltb-false i f k in
-          (omega (arith, p.0.0, q.0.0), λ o. absurd (omega arith))
+-- any two finds agree
+pub found_one : (s : List ℕ) (i : ℕ) → i ≤ length s → (x y : Option Found) → Finds s i x → Finds s i y → x ≡ y
+found_one s i w None None p q = refl
+found_one s i w None (Some g) p q = absurd (lead_some (drop i s) g.step (g.end - i) (found_leads s i w g q) p)
+found_one s i w (Some f) None p q = absurd (lead_some (drop i s) f.step (f.end - i) (found_leads s i w f p) q)
+found_one s i w (Some f) (Some g) p q =
+    let z = lead_one (drop i s) f.step g.step (f.end - i) (g.end - i) (found_leads s i w f p) (found_leads s i w g q) in
+    let e : f.end ≡ g.end = omega (arith, z.1, p.0, q.0) in
+    ap (λ (x : Step). Some (record { step = x; end = f.end })) z.0 ∙ ap (λ (n : ℕ). Some (record { step = g.step; end = n })) e

@@ -1,6 +1,6 @@
 -- Where a row ends (clause S16.2 of docs/SCOPE.md), and what a row with its end says where steps are due.
-use Rattle.std.specs.Prelude.{ℕ, ◌+◌, ◌-◌, ◌<◌, ◌≤◌, cond, List, [], ◌∷◌, ◌++◌, ◌≡◌, eqb, length, get_or, take, drop}
-use Rattle.text.specs.Names.{Row, Step}
+use Rattle.std.specs.Prelude.{ℕ, ◌+◌, ◌-◌, ◌<◌, ◌≤◌, cond, List, [], ◌∷◌, ◌++◌, ◌≡◌, eqb, length, get_or, take, drop, Option, Some, None}
+use Rattle.text.specs.Names.{Found, Row, Step}
 use Rattle.text.specs.Rows.{row_of}
 
 -- S16.2: one CR, whose byte is 13, belongs to the end
@@ -13,10 +13,10 @@ breaks [] = 0
 breaks (b ∷ l) = cond (eqb b 10) 1 0 + breaks l
 
 -- S16.10: where steps are due, a row that is no step stands for a step of no known kind: that is answered 2 and changes nothing, too
-abbrev pub step_in : Row → Step
-step_in Row.Other = Step.Other
-step_in (Row.Plan n k r b) = Step.Other
-step_in (Row.Step x) = x
+abbrev pub step_in : Option Row → Step
+step_in None = Step.Other
+step_in (Some (Row.Plan n k r b)) = Step.Other
+step_in (Some (Row.Step x)) = x
 
 -- S16.2: these bytes are a line and its LF, and the line asks for x
 pub record OneRow (l : List ℕ) (x : Step) : Type 0 where
@@ -30,9 +30,7 @@ pub record Leads (s : List ℕ) (x : Step) (n : ℕ) : Type 0 where
   pub within : n ≤ length s
   pub row : OneRow (take n s) x
 
--- S16.2: from i on, the next whole row ends at e and asks for x; or no LF comes, and e is i
-abbrev pub Finds : List ℕ → ℕ → ℕ → Step → Type 0
-Finds s i e x =
-    ((i ≤ e) × (e ≤ length s))
-    × ((e ≤ i → breaks (drop i s) ≡ 0)
-    × (i < e → OneRow (take (e - i) (drop i s)) x))
+-- S16.2: from i on no LF comes; or the next whole row ends at f.end and asks for f.step
+abbrev pub Finds : List ℕ → ℕ → Option Found → Type 0
+Finds s i None = breaks (drop i s) ≡ 0
+Finds s i (Some f) = (i < f.end) × (f.end ≤ length s) × OneRow (take (f.end - i) (drop i s)) f.step

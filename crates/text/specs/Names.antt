@@ -1,10 +1,6 @@
 -- The types that this crate speaks of, under one roof.
 pub use Rattle.cabinet.specs.declared.entry.Reading.{Reading}
 pub use Rattle.types.specs.declared.step.Step.{Step}
-pub use Rattle.text.specs.declared.ahead.Ahead.{Ahead}
-pub use Rattle.text.specs.declared.field.Number.{Number}
-pub use Rattle.text.specs.declared.field.Pair.{Pair}
-pub use Rattle.text.specs.declared.reading.Said.{Said}
 pub use Rattle.text.specs.declared.row.Row.{Row}
 pub use Rattle.text.specs.declared.whole.Found.{Found}
 pub use Rattle.text.specs.declared.word.Single.{Single}

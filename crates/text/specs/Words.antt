@@ -1,5 +1,5 @@
 -- The words of a step list as byte strings, and the kinds that they name: clauses S16.7 to S16.9 of docs/SCOPE.md; S20.5.
-use Rattle.std.specs.Prelude.{ℕ, cond, List, [], ◌∷◌}
+use Rattle.std.specs.Prelude.{ℕ, cond, List, [], ◌∷◌, Option, Some, None}
 use Rattle.types.specs.Texts.{bytes}
 use Rattle.text.specs.Fields.{same}
 use Rattle.text.specs.Names.{Double, Kind, Single}
@@ -75,10 +75,10 @@ kinds =
     ∷ []
 
 -- S16.9: the kind that a word names, by the first entry that has it
-unfoldable pub kind_in : List Named → List ℕ → Kind
-kind_in [] w = Kind.NoKind
-kind_in (n ∷ ns) w = cond (same w n.word) n.kind (kind_in ns w)
+unfoldable pub kind_in : List Named → List ℕ → Option Kind
+kind_in [] w = None
+kind_in (n ∷ ns) w = cond (same w n.word) (Some n.kind) (kind_in ns w)
 
 -- S16.9, S16.10: the kind that a word names, or none
-abbrev pub kind_of : List ℕ → Kind
+abbrev pub kind_of : List ℕ → Option Kind
 kind_of w = kind_in kinds w

@@ -2,7 +2,6 @@
 #![tactic(auto)]
 
 mod ahead;
-mod bytes;
 mod field;
 mod reading;
 mod row;
@@ -10,4 +9,4 @@ mod whole;
 mod word;
 
 pub use row::{MOST_BYTES, Row, is_header, parse};
-pub use whole::{Found, find, trim};
+pub use whole::{Found, find, step_of, trim};

@@ -3,16 +3,13 @@ ghost use Rattle.std.specs.Prelude.{◌≡◌};
 ghost use Rattle.text.specs.Fields.{split};
 ghost use Rattle.text.specs.Rows.{one_step, two_step, row_as, row_of, is_header};
 
-use super::field::{Number, Pair};
-use super::reading::Said;
 use super::word::{Double, Kind, Single};
-use super::{bytes, field, reading, word};
+use super::{field, reading, word};
 use types::Step;
 
-// A plan has its n, k, r and b. `Other` is a line of any other form; it is answered 2.
+// A plan has its n, k, r and b. A line of any other form is no row; it is answered 2.
 #[derive(Clone, Copy)]
 pub enum Row {
-    Other,
     Plan(u64, u64, u64, u64),
     Step(Step),
 }
@@ -43,95 +40,45 @@ pub fn two_step(k: Double, a: u8, b: u8) -> Step
 }
 
 // A number, and three fields that are not used.
-fn with_one(k: Single, s: &[u8]) -> Row
+fn with_one(k: Single, s: &[u8]) -> Option<Row>
     ensures { result ≡ row_as (Kind.WithOne k) (split s.now) }
 {
-    match field::number_at(s) {
-        Number::NoNumber => Row::Other,
-        Number::Value(a, n) => {
-            if field::MOST_STEP_NUMBER < a {
-                return Row::Other;
-            }
-            if bytes::same(&s[n..], b",,,") {
-                return Row::Step(one_step(k, a as u8));
-            }
-            Row::Other
-        }
-    }
+    let (a, n) = field::byte_at(s)?;
+    (s[n..] == b",,,"[..]).then_some(Row::Step(one_step(k, a)))
 }
 
 // Two numbers, and two fields that are not used.
-fn with_two(k: Double, s: &[u8]) -> Row
+fn with_two(k: Double, s: &[u8]) -> Option<Row>
     ensures { result ≡ row_as (Kind.WithTwo k) (split s.now) }
 {
-    match field::pair_at(s) {
-        Pair::NoPair => Row::Other,
-        Pair::Values(a, b, n) => {
-            if field::MOST_STEP_NUMBER < a {
-                return Row::Other;
-            }
-            if field::MOST_STEP_NUMBER < b {
-                return Row::Other;
-            }
-            if bytes::same(&s[n..], b",,") {
-                return Row::Step(two_step(k, a as u8, b as u8));
-            }
-            Row::Other
-        }
-    }
+    let (a, b, n) = field::bytes_at(s)?;
+    (s[n..] == b",,"[..]).then_some(Row::Step(two_step(k, a, b)))
 }
 
 // Four numbers.
-fn plan_row(s: &[u8]) -> Row
+fn plan_row(s: &[u8]) -> Option<Row>
     ensures { result ≡ row_as Kind.Plans (split s.now) }
 {
-    match field::pair_at(s) {
-        Pair::NoPair => Row::Other,
-        Pair::Values(n, k, at) => {
-            if at == s.len() {
-                return Row::Other;
-            }
-            let t = &s[at + 1..];
-            match field::pair_at(t) {
-                Pair::NoPair => Row::Other,
-                Pair::Values(r, b, end) => {
-                    if end == t.len() {
-                        return Row::Plan(n, k, r, b);
-                    }
-                    Row::Other
-                }
-            }
-        }
-    }
+    let (n, k, at) = field::pair_at(s)?;
+    let rest = s.get(at + 1..)?;
+    let (r, b, end) = field::pair_at(rest)?;
+    (end == rest.len()).then_some(Row::Plan(n, k, r, b))
 }
 
 // A client, and a reading.
-fn write_row(s: &[u8]) -> Row
+fn write_row(s: &[u8]) -> Option<Row>
     ensures { result ≡ row_as Kind.Writes (split s.now) }
 {
-    match field::number_at(s) {
-        Number::NoNumber => Row::Other,
-        Number::Value(a, n) => {
-            if field::MOST_STEP_NUMBER < a {
-                return Row::Other;
-            }
-            if n == s.len() {
-                return Row::Other;
-            }
-            match reading::reading_of(&s[n + 1..]) {
-                Said::Nothing => Row::Other,
-                Said::Says(w) => Row::Step(Step::Write(a as u8, w)),
-            }
-        }
-    }
+    let (a, n) = field::byte_at(s)?;
+    let w = reading::reading_of(s.get(n + 1..)?)?;
+    Some(Row::Step(Step::Write(a, w)))
 }
 
 // A row of the kind k whose other fields s has.
-fn row_as(k: Kind, s: &[u8]) -> Row
+fn row_as(k: Kind, s: &[u8]) -> Option<Row>
     ensures { result ≡ row_as k (split s.now) }
 {
     match k {
-        Kind::NoKind => Row::Other,
         Kind::Plans => plan_row(s),
         Kind::Writes => write_row(s),
         Kind::WithOne(k) => with_one(k, s),
@@ -140,21 +87,19 @@ fn row_as(k: Kind, s: &[u8]) -> Row
 }
 
 // What a line says; it is given without its end.
-pub fn parse(line: &[u8]) -> Row
+pub fn parse(line: &[u8]) -> Option<Row>
     ensures { result ≡ row_of line.now }
 {
     if MOST_BYTES < line.len() {
-        return Row::Other;
+        return None;
     }
-    let head = word::head_of(line);
-    let kind = head.kind;
-    let end = head.end;
-    row_as(kind, &line[end..])
+    let head = word::head_of(line)?;
+    row_as(head.kind, &line[head.end..])
 }
 
 // S16.7, S20.5: whether the line is exactly the header row.
 pub fn is_header(line: &[u8]) -> bool
     ensures { result ≡ is_header line.now }
 {
-    bytes::same(line, b"kind,a,b,c,d")
+    line == &b"kind,a,b,c,d"[..]
 }

@@ -1,90 +1,62 @@
 // The next whole row of a part of the input, where steps are due.
-ghost use Rattle.std.specs.Prelude.{◌≡◌, ◌≤◌, ◌<◌, ◌-◌, length, get_or, take, drop};
-ghost use Rattle.text.specs.Ends.{unended, breaks, step_in, Finds};
-ghost use Rattle.text.specs.Rows.{row_of};
+ghost use Rattle.std.specs.Prelude.{◌≡◌, ◌==◌, ◌≤◌, length, position, MatchOption};
+ghost use Rattle.text.specs.Ends.{unended, breaks, step_in, Finds, Leads};
 
-use super::ahead::{Ahead, step_ahead};
+use super::ahead::step_ahead;
 use super::row::{Row, parse};
 use types::Step;
 
-// The step, `Other` where the row is none, and the place behind the row's LF; the place where it begins, if no LF comes.
+// A row's step, `Other` where the row is none, and the place behind the row's LF.
 #[derive(Clone, Copy)]
 pub struct Found {
     pub step: Step,
     pub end: usize,
 }
 
-// How long a row is without one CR at its end.
-pub fn trim(l: &[u8]) -> usize
-    ensures { (take result l.now ≡ unended l.now) × (result ≤ length l.now) }
+// A row without one CR at its end.
+pub fn trim(l: &[u8]) -> &[u8]
+    ensures { result.now ≡ unended l.now }
 {
-    let n = l.len();
-    if 0 < n {
-        if l[n - 1] == b'\r' {
-            return n - 1;
-        }
-        return n;
-    }
-    n
+    l.strip_suffix(b"\r").unwrap_or(l)
 }
 
-// Where the next LF is, or the end.
-fn line_end(s: &[u8], from: usize) -> usize
-    requires { from ≤ length s.now }
-    ensures lower_bound { (from ≤ result) × (result ≤ length s.now) }
-    ensures s_value { breaks (take (result - from) (drop from s.now)) ≡ 0 }
-    ensures result_value { result < length s.now → get_or s.now result 0 ≡ 10 }
+// Where steps are due, a plan row is no step, either.
+pub fn step_of(row: Option<Row>) -> Step
+    ensures { result ≡ step_in row }
 {
-    let mut i = from;
-    while i < s.len() {
-        if s[i] == b'\n' {
-            break;
-        }
-        i += 1;
-    }
-    i
-}
-
-fn step_in(l: &[u8]) -> Step
-    ensures { result ≡ step_in (row_of l.now) }
-{
-    match parse(l) {
-        Row::Other => Step::Other,
-        Row::Plan(_, _, _, _) => Step::Other,
-        Row::Step(x) => x,
+    match row {
+        Some(Row::Step(step)) => step,
+        _ => Step::Other,
     }
 }
 
-// The same for any row: its end is looked for first.
-fn by_end(s: &[u8], i: usize) -> Found
-    requires { i ≤ length s.now }
-    ensures { Finds s.now i result.end result.step }
+// Where the first LF is.
+fn line_end(s: &[u8]) -> Option<usize>
+    ensures { result ≡ position (λ b. b == 10) s.now }
 {
-    let e = line_end(s, i);
-    if e == s.len() {
-        return Found {
-            step: Step::Other,
-            end: i,
-        };
-    }
-    let l = &s[i..e];
-    let n = trim(l);
-    Found {
-        step: step_in(&l[..n]),
+    s.iter().position(|b| *b == b'\n')
+}
+
+// The row that s begins with, whatever its form: its end is looked for first.
+fn by_end(s: &[u8]) -> Option<Found>
+    ensures { MatchOption result (breaks s.now ≡ 0) (λ f. Leads s.now f.step f.end) }
+{
+    let e = line_end(s)?;
+    Some(Found {
+        step: step_of(parse(trim(&s[..e]))),
         end: e + 1,
-    }
+    })
 }
 
-// The next whole row of s from i on.
-pub fn find(s: &[u8], i: usize) -> Found
-    requires { i ≤ length s.now }
-    ensures { Finds s.now i result.end result.step }
+// The next whole row of s from `from` on; None where no LF comes.
+pub fn find(s: &[u8], from: usize) -> Option<Found>
+    requires { from ≤ length s.now }
+    ensures { Finds s.now from result }
 {
-    match step_ahead(&s[i..]) {
-        Ahead::Unclear => by_end(s, i),
-        Ahead::Whole(x, n) => Found {
-            step: x,
-            end: i + n,
-        },
-    }
+    let rest = &s[from..];
+    let row = step_ahead(rest).or_else(|| by_end(rest))?;
+    Some(Found {
+        step: row.step,
+        end: from + row.end,
+    })
 }

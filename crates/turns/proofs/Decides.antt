@@ -11,9 +11,9 @@ use Rattle.run.specs.Lists.{run_all}
 use Rattle.print.specs.Put.{put}
 use Rattle.turns.specs.Turns.{closed, steps_in, text_all, Took}
 use Rattle.turns.proofs.LineLaws.{one_set}
-use Rattle.turns.proofs.turn.steps.Reads as steps
+use Rattle.turns.proofs.steps.Reads as steps
 
-module _ (s : List ℕ) (at row : ℕ) (run : Run) (d e f : List ℕ) (r w : Went) (p : Took s at row run d e r) (q : Took s at row run d f w) where
+module _ (s : List ℕ) (at row : ℕ) (run : Run) (d e f : List ℕ) (held kept : Run) (r w : Went) (p : Took s at row run d e held r) (q : Took s at row run d f kept w) where
   same_lines : p.lines ≡ q.lines
   same_lines =
       (one_set p.lines q.lines (drop r.used s) (drop w.used s) p.unbroken q.unbroken p.rest q.rest
@@ -30,17 +30,16 @@ module _ (s : List ℕ) (at row : ℕ) (run : Run) (d e f : List ℕ) (r w : Wen
   same_row : r.row ≡ w.row
   same_row = p.next ∙ ap (λ (l : List (List ℕ)). row + length l) same_lines ∙ sym q.next
 
-  same_run : r.run ≡ w.run
+  same_run : held ≡ kept
   same_run = p.goes ∙ ap (λ (l : List (List ℕ)). run_all run (steps_in l)) same_lines ∙ sym q.goes
 
-  went : (u o n : ℕ) (held : Run) → r.used ≡ u → r.at ≡ o → r.row ≡ n → r.run ≡ held
-      → r ≡ record { used = u; at = o; row = n; run = held }
-  went u o n held a b c h = rw (← a, ← b, ← c, ← h) refl
+  went : (u o n : ℕ) → r.used ≡ u → r.at ≡ o → r.row ≡ n → r ≡ record { used = u; at = o; row = n }
+  went u o n a b c = rw (← a, ← b, ← c) refl
 
-  pub took_one : (r ≡ w) × (e ≡ f)
+  pub took_one : (r ≡ w) × (e ≡ f) × (held ≡ kept)
   took_one =
-      (went w.used w.at w.row w.run same_used same_at same_row same_run, p.says ∙ ap (λ (l : List (List ℕ)). put d at (text_all row run (steps_in l))) same_lines ∙ sym q.says)
+      (went w.used w.at w.row same_used same_at same_row, p.says ∙ ap (λ (l : List (List ℕ)). put d at (text_all row run (steps_in l))) same_lines ∙ sym q.says, same_run)
 
 pub steps_decides : (κs : _) (a : _) (r w : Went) (s s' : _) → steps.Post κs a r s → steps.Post κs a w s'
-    → (r ≡ w) × (s.1.0.now ≡ s'.1.0.now)
-steps_decides κs a r w s s' p q = took_one _ _ _ _ _ _ _ r w p q
+    → (r ≡ w) × (s.1.0.now ≡ s'.1.0.now) × (s.1.1.1.1.0.now ≡ s'.1.1.1.1.0.now)
+steps_decides κs a r w s s' p q = took_one _ _ _ _ _ _ _ _ _ r w p q

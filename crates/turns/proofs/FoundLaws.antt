@@ -1,31 +1,31 @@
 -- A row that was found between two rows: its answer has room, and after it what held holds again. Assumes nothing.
-use Prim.Native.Nat.{ℕ, ◌+◌, ◌-◌, ◌≤◌, ◌<◌}
-use native.Mathlib.Omega.{arith}
-use mathlib.Core.List.{List}
-use mathlib.Core.Path.{◌≡◌, sym}
-use lib.ListN.{length, take, drop}
-use Rattle.turns.specs.Names.{Run, Step, Stepped}
+use Rattle.std.proofs.Common.{ℕ, ◌+◌, ◌-◌, ◌^◌, ◌≤◌, ◌<◌, ◌≡◌, List, length, drop, sym, subst, arith}
+use Rattle.turns.specs.Names.{Found, None, Option, Run, Some, Step, Stepped}
 use Rattle.run.specs.Steps.{step_of}
-use Rattle.text.specs.Ends.{OneRow}
+use Rattle.text.specs.Ends.{Finds, breaks}
 use Rattle.print.specs.Put.{Wrote}
 use Rattle.print.specs.Rows.{step_text, room}
-use Rattle.turns.proofs.TakingLaws.{Taking, taking_room, taking_next}
+use Rattle.turns.proofs.TakingLaws.{Taking, taking_room, taking_row, taking_next}
 
--- the row from i to j asks for x, and what was answered before it holds
-pub record Found (s : List ℕ) (at row : ℕ) (run : Run) (d : List ℕ) (i : ℕ) (e : List ℕ) (o n : ℕ) (held : Run) (j : ℕ) (x : Step) : Type 0 where
-  pub later : i < j
-  pub within : j ≤ length s
-  pub one : OneRow (take (j - i) (drop i s)) x
-  pub kept : Taking s at row run d i e o n held
+-- no row is left
+pub last : (s : List ℕ) (i : ℕ) (r : Option Found) → Finds s i r → r ≡ None → breaks (drop i s) ≡ 0
+last s i r found is = subst (Finds s i) is found
 
-module _ {s : List ℕ} {at row : ℕ} {run : Run} {d : List ℕ} {i : ℕ} {e : List ℕ} {o n : ℕ} {held : Run} {j : ℕ} {x : Step} (h : Found s at row run d i e o n held j x) where
-  -- the loop's measure falls
-  pub shorter : length s - j < length s - i
-  shorter = omega (arith, h.later, h.within)
+-- the row that was found behind i
+module _ (s : List ℕ) (i : ℕ) (r : Option Found) (found : Finds s i r) (x : Found) (is : r ≡ Some x) where
+  row_there : Finds s i (Some x)
+  row_there = subst (Finds s i) is found
 
-  pub has_room : o + room ≤ length e
-  has_room = taking_room s i j x h.later h.within h.one at row run d e o n held h.kept
+  pub shorter : length s - x.end < length s - i
+  shorter = let h = row_there in omega arith
 
-  pub next : (f : List ℕ) (q : ℕ) (r : Stepped) → step_of held x ≡ r → Wrote e o (step_text n r.answer) f q → q ≤ o + room
-      → Taking s at row run d j f q (n + 1) r.run
-  next f q r is w most = taking_next s i j x h.later h.within h.one at row run d e o n held h.kept f q r (sym is) w most
+  module _ {at row : ℕ} {run : Run} {d e : List ℕ} {o n : ℕ} {held : Run} (t : Taking s at row run d i e o n held) where
+    pub has_room : o + room ≤ length e
+    has_room = taking_room s i x.end x.step row_there.0 row_there.1 row_there.2 at row run d e o n held t
+
+    pub next_row : n + 1 < 2 ^ 64
+    next_row = taking_row s i x.end x.step row_there.0 row_there.1 row_there.2 at row run d e o n held t
+
+    pub next : (f : List ℕ) (q : ℕ) (z : Stepped) → z ≡ step_of held x.step → Wrote e o (step_text n z.answer) f q → q ≤ o + room
+        → Taking s at row run d x.end f q (n + 1) z.run
+    next = taking_next s i x.end x.step row_there.0 row_there.1 row_there.2 at row run d e o n held t

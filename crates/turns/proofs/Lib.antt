@@ -2,4 +2,3 @@ pub mod Decides
 pub mod FoundLaws
 pub mod LineLaws
 pub mod TakingLaws
-pub mod TurnLaws

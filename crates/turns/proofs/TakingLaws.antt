@@ -43,7 +43,7 @@ module _ (s : List ℕ) (at row : ℕ) (run : Run) (d : List ℕ) where
       record { lines = []; within = omega arith; taken = refl; unbroken = refl; same = refl; goes = refl; next = omega arith; wrote = (put_none d at, omega arith); left = omega arith; rows = omega arith; sound = h; fits = f; counted = c }
 
   pub taking_end : (i : ℕ) (e : List ℕ) (o n : ℕ) (held : Run) → Taking s at row run d i e o n held → breaks (drop i s) ≡ 0
-      → Took s at row run d e (record { used = i; at = o; row = n; run = held })
+      → Took s at row run d e held (record { used = i; at = o; row = n })
   taking_end i e o n held t none =
       record { lines = t.lines; within = t.within; taken = t.taken; unbroken = t.unbroken; rest = none; says = t.wrote.0; ends = t.wrote.1; goes = t.goes; next = t.next; room = omega (arith, t.left); rows = omega (arith, t.rows); sound = t.sound }
 

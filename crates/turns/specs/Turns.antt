@@ -30,8 +30,8 @@ unfoldable pub text_all : ℕ → Run → List Step → List ℕ
 text_all n run [] = []
 text_all n run (x ∷ xs) = step_text n (step_of run x).answer ++ text_all (n + 1) (step_of run x).run xs
 
--- S16.9: all whole rows of s are answered: the buffer, d before, is e after
-pub record Took (s : List ℕ) (at row : ℕ) (run : Run) (d e : List ℕ) (r : Went) : Type 0 where
+-- S16.9: all whole rows of s are answered: the buffer, d before, is e after, and the run is then `held`
+pub record Took (s : List ℕ) (at row : ℕ) (run : Run) (d e : List ℕ) (held : Run) (r : Went) : Type 0 where
   pub lines : List (List ℕ)
   pub within : r.used ≤ length s
   pub taken : take r.used s ≡ closed lines
@@ -39,8 +39,8 @@ pub record Took (s : List ℕ) (at row : ℕ) (run : Run) (d e : List ℕ) (r : 
   pub rest : breaks (drop r.used s) ≡ 0
   pub says : e ≡ put d at (text_all row run (steps_in lines))
   pub ends : r.at ≡ at + length (text_all row run (steps_in lines))
-  pub goes : r.run ≡ run_all run (steps_in lines)
+  pub goes : held ≡ run_all run (steps_in lines)
   pub next : r.row ≡ row + length lines
   pub room : r.at ≤ at + room * breaks s
   pub rows : r.row ≤ row + breaks s
-  pub sound : undamaged r.run ≡ true
+  pub sound : undamaged held ≡ true

@@ -1,6 +1,6 @@
 -- The worked cases of docs/SCOPE.md (clause S18.5): plans P1 to P8, the order of three stamps, and an equal stamp being kept.
 use Rattle.std.specs.Prelude.{ℕ, Bool, true, false, List, [], ◌∷◌}
-use Rattle.worked.specs.Names.{Cabinet, Entry, Planned, Profile, Reading, Stamp}
+use Rattle.worked.specs.Names.{Cabinet, Entry, Err, Ok, Planned, Profile, Reading, Stamp, Unplanned}
 use Rattle.plan.specs.Rule.{plan_of}
 use Rattle.cabinet.specs.Entries.{later_than}
 use Rattle.cabinet.specs.Cabinets.{fresh_cabinet, offered}

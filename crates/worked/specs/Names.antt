@@ -1,6 +1,7 @@
 -- The types that this crate speaks of, under one roof.
+pub use Rattle.plan.specs.Names.{Planned, Ok, Err}
+pub use Rattle.plan.specs.declared.Unplanned.{Unplanned}
 pub use Rattle.plan.specs.declared.Profile.{Profile}
-pub use Rattle.plan.specs.declared.Planned.{Planned}
 pub use Rattle.cabinet.specs.declared.entry.Stamp.{Stamp}
 pub use Rattle.cabinet.specs.declared.entry.Reading.{Reading}
 pub use Rattle.cabinet.specs.declared.entry.Entry.{Entry}

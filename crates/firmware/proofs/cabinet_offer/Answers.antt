@@ -1,30 +1,19 @@
 -- `cabinet_offer` meets its contract. Assumes nothing.
 use mathlib.Core.Path.{◌∙◌}
-use Rattle.firmware.proofs.OfferLaws.{taken, not_taken, taken_length}
+use borrow.Author.Rules.{rules}
+use Rattle.firmware.proofs.OfferLaws.{answered, taken, not_taken, taken_length}
+use Rattle.firmware.proofs.cabinet_offer.Goals.{then-eq, else-eq}
 use Rattle.firmware.proofs.cabinet_offer.Goals as goal
 
-pub copy_over-requires : goal.copy_over-requires
-copy_over-requires c =
-    let decode = c.decode-mine in
-    let decode2 = c.decode-theirs in
-    let judge = c.judge-answer in
-    let if1 = c.if-answer-eq-TAKEN in
-    taken_length _ _ _ _ _ decode.ensures decode2.ensures judge.ensures if1.true
+pub copy_from_slice-requires : goal.copy_from_slice-requires
+copy_from_slice-requires c = taken_length _ _ _ _ _ c.decode.ensures c.decode-2.ensures c.judge-verdict.ensures (search rules)
 
-pub returns-then-answer-eq-TAKEN : goal.returns-then-answer-eq-TAKEN
-returns-then-answer-eq-TAKEN c =
-    let t =
-    let decode = c.decode-mine in
-    let decode2 = c.decode-theirs in
-    let judge = c.judge-answer in
-    let if1 = c.if-answer-eq-TAKEN in
-    taken _ _ _ _ _ decode.ensures decode2.ensures judge.ensures if1.true in
-    record { value = t.0; held_after = c.copy_over.ensures ∙ t.1 }
+pub returns-clause-value : goal.returns-clause-value
+returns-clause-value c = c.into.ensures ∙ answered _ _ _ _ _ c.decode.ensures c.decode-2.ensures c.judge-verdict.ensures
 
-pub returns-else-answer-eq-TAKEN : goal.returns-else-answer-eq-TAKEN
-returns-else-answer-eq-TAKEN c =
-    let decode = c.decode-mine in
-    let decode2 = c.decode-theirs in
-    let judge = c.judge-answer in
-    let t = not_taken _ _ _ _ _ decode.ensures decode2.ensures judge.ensures c.if-answer-eq-TAKEN.false in
-    record { value = t.0; held_after = t.1 }
+pub returns-clause-held_after : goal.returns-clause-held_after
+returns-clause-held_after c =
+    elim c.if-eq.branch [
+      | then-eq w ↦ w.held-is ∙ w.copy_from_slice.ensures.after ∙ taken _ _ _ _ _ c.decode.ensures c.decode-2.ensures c.judge-verdict.ensures (search rules)
+      | else-eq w ↦ w.held-is ∙ not_taken _ _ _ _ _ c.decode.ensures c.decode-2.ensures c.judge-verdict.ensures (search rules)
+    ]

@@ -6,7 +6,4 @@ use Rattle.print.proofs.number.put_four.Goals as goal
 
 pub returns : goal.returns
 unfolding four
-returns c =
-    let put-pair = c.put_pair-i in
-    let put-pair2 = c.put_pair in
-    record { wrote = after _ _ _ put-pair.ensures put-pair2.ensures (omega arith); value = omega arith }
+returns c = after _ _ _ c.put_pair-i.ensures c.put_pair.ensures (omega arith)

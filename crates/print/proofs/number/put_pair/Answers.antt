@@ -4,7 +4,4 @@ use Rattle.print.proofs.PutLaws.{after}
 use Rattle.print.proofs.number.put_pair.Goals as goal
 
 pub returns : goal.returns
-returns c =
-    let put-digit = c.put_digit-i in
-    let put-digit2 = c.put_digit in
-    after _ _ _ put-digit.ensures put-digit2.ensures (omega arith)
+returns c = after _ _ _ c.put_digit-i.ensures c.put_digit.ensures (omega arith)

@@ -7,11 +7,12 @@ use Rattle.print.specs.Numbers.{decimal}
 use Rattle.print.specs.Words.{reading_text}
 use Rattle.print.proofs.outcome.put_entry.Goals as goal
 
-pub returns : goal.returns
-returns c =
+pub returns-clause-wrote : goal.returns-clause-wrote
+returns-clause-wrote c =
     let a = c.args in
-    let put-short-field = c.put_short_field-i in
-    let put-long-field = c.put_long_field-j in
-    let put-short-field2 = c.put_short_field-k in
-    let put-reading = c.put_reading in
-    record { wrote = same _ _ (three_fields (decimal a.slot) (decimal a.entry.stamp.counter) (decimal a.entry.stamp.writer) (reading_text a.entry.reading ∷ [])) (after _ _ _ (after _ _ _ (after _ _ _ put-short-field.ensures.wrote put-long-field.ensures.wrote (omega arith)) put-short-field2.ensures.wrote (omega arith)) put-reading.ensures.wrote (omega arith)); upper_bound = omega arith }
+    let stamp = a.entry.stamp in
+    let slot = c.put_short_field-i.ensures.wrote in
+    let counter = after _ _ _ slot c.put_long_field-j.ensures.wrote (omega arith) in
+    let writer = after _ _ _ counter c.put_short_field-k.ensures.wrote (omega arith) in
+    same _ _ (three_fields (decimal a.slot) (decimal stamp.counter) (decimal stamp.writer) (reading_text a.entry.reading ∷ []))
+    (after _ _ _ writer c.put_reading.ensures.wrote (omega arith))

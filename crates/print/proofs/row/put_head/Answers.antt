@@ -1,8 +1,7 @@
 -- `put_head` meets its contract: the header is a byte string. Assumes nothing.
-use native.Mathlib.Omega.{arith}
 use Rattle.print.specs.Rows.{head_text}
 use Rattle.print.proofs.row.put_head.Goals as goal
 
-pub returns : goal.returns
+pub returns-clause-wrote : goal.returns-clause-wrote
 unfolding head_text
-returns c = record { wrote = c.put_bytes.ensures; upper_bound = omega arith }
+returns-clause-wrote c = c.put_bytes.ensures

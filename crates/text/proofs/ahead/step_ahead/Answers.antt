@@ -1,6 +1,6 @@
 -- `step_ahead` meets its contract. Assumes nothing.
-use mathlib.Core.Path.{refl, sym, ◌∙◌}
-use Rattle.text.proofs.AheadLaws.{unclear}
+use mathlib.Core.Path.{refl}
+use Rattle.text.proofs.BytesLaws.{begins_by}
 use Rattle.text.proofs.WordLaws.{by_first}
 use Rattle.text.specs.Pieces.{lead_by}
 use Rattle.text.specs.Words.{kinds}
@@ -8,23 +8,8 @@ use Rattle.text.proofs.ahead.step_ahead.Goals as goal
 
 pub one_ahead-requires : goal.one_ahead-requires
 unfolding lead_by
-one_ahead-requires c = by_first kinds _ 100 _ _ _ refl (sym c.begins.ensures ∙ c.if-begins.true)
+one_ahead-requires c = by_first kinds _ 100 _ _ _ refl (begins_by _ _ _ c.if-starts_with.ensures.value)
 
 pub two_ahead-requires : goal.two_ahead-requires
 unfolding lead_by
-two_ahead-requires c = by_first kinds _ 115 _ _ _ refl (sym c.begins-2.ensures ∙ c.if-begins-2.true)
-
-pub one_ahead-requires-in-WithOne : goal.one_ahead-requires-in-WithOne
-one_ahead-requires-in-WithOne c = sym c.head_of-head.ensures ∙ rw c.in-WithOne.is
-
-pub two_ahead-requires-in-WithTwo : goal.two_ahead-requires-in-WithTwo
-two_ahead-requires-in-WithTwo c = sym c.head_of-head.ensures ∙ rw c.in-WithTwo.is
-
-pub returns-in-NoKind : goal.returns-in-NoKind
-returns-in-NoKind c = unclear _
-
-pub returns-in-Plans : goal.returns-in-Plans
-returns-in-Plans c = unclear _
-
-pub returns-in-Writes : goal.returns-in-Writes
-returns-in-Writes c = unclear _
+two_ahead-requires c = by_first kinds _ 115 _ _ _ refl (begins_by _ _ _ c.if-starts_with-2.ensures.value)

@@ -1,67 +1,56 @@
--- `number_at` meets its contract. The loop's invariant: v is the value of the first i digits, and the rest of the field goes on from it. Assumes nothing.
-use Prim.Native.Nat.{◌+◌}
+-- `number_at` meets its contract. The loop's invariant: v is the value of the first n digits, and the rest of the field goes on from it. Assumes nothing.
 use lib.ListN.{length, drop}
-use mathlib.Core.List.{[], ◌∷◌}
-use mathlib.Core.Path.{◌≡◌, sym, ◌∙◌, ap}
+use mathlib.Core.List.{[]}
+use mathlib.Core.Path.{◌≡◌, refl, sym, ◌∙◌, ap}
 use native.Mathlib.Omega.{arith}
-use Rattle.text.proofs.NumberLaws.{field_end, field_comma, field_next, value_low, value_high, value_next, grown, small, number_not, number_over, number_none, number_zero, number_many, number_one}
+use Rattle.text.proofs.NumberLaws.{field_end, field_comma, field_next, value_low, value_high, value_next, grown, number_not, number_over, number_none, number_one, number_several}
 use Rattle.text.specs.Pieces.{first}
 use Rattle.text.proofs.field.number_at.Goals as goal
-use Rattle.text.proofs.field.number_at.Goals.{else-loop-i-test, then-loop-i-test+then-b-eq-COMMA}
+use Rattle.text.proofs.field.number_at.Goals.{else-loop-b-test, then-loop-b-test+in-44, then-several, else-several, then-n-gt0, else-n-gt0}
 
-pub returns-then-b-lt-ZERO : goal.returns-then-b-lt-ZERO
-returns-then-b-lt-ZERO c =
-    let one_more : first (drop c.loop-i.i c.args.s.now) ≡ c.wide-b.result ∷ first (drop (c.loop-i.i + 1) c.args.s.now) = field_next _ _ _ c.loop-i-test.true c.wide-b.ensures.0 c.if-b-eq-COMMA.false in
-    let loop = c.loop-i in
-    number_not _ (sym loop.invariant.3 ∙ value_low _ _ _ _ one_more c.if-b-lt-ZERO.true)
+pub returns-in_default-clause-value : goal.returns-in_default-clause-value
+returns-in_default-clause-value c =
+    let loop = c.loop-b in
+    let more = field_next c.args.s.now loop.n _ _ loop.invariant.count c.loop-b-test.true refl (omega arith) in
+    number_not _ (sym loop.invariant.value ∙ value_low _ _ _ _ more (omega arith))
 
-pub returns-then-b-gt-NINE : goal.returns-then-b-gt-NINE
-returns-then-b-gt-NINE c =
-    let one_more : first (drop c.loop-i.i c.args.s.now) ≡ c.wide-b.result ∷ first (drop (c.loop-i.i + 1) c.args.s.now) = field_next _ _ _ c.loop-i-test.true c.wide-b.ensures.0 c.if-b-eq-COMMA.false in
-    let loop = c.loop-i in
-    let if2 = c.if-b-lt-ZERO in
-    number_not _ (sym loop.invariant.3 ∙ value_high _ _ _ _ one_more if2.false c.if-b-gt-NINE.true)
+pub returns-in_default-2-clause-value : goal.returns-in_default-2-clause-value
+returns-in_default-2-clause-value c =
+    let loop = c.loop-b in
+    number_over _ _ _ _ (field_next c.args.s.now loop.n _ _ loop.invariant.count c.loop-b-test.true refl (omega arith)) loop.invariant.left c.if-n-lt-MOST_DIGITS.false
 
-pub returns-then-i-ge-MOST_DIGITS : goal.returns-then-i-ge-MOST_DIGITS
-returns-then-i-ge-MOST_DIGITS c =
-    let one_more : first (drop c.loop-i.i c.args.s.now) ≡ c.wide-b.result ∷ first (drop (c.loop-i.i + 1) c.args.s.now) = field_next _ _ _ c.loop-i-test.true c.wide-b.ensures.0 c.if-b-eq-COMMA.false in
-    let loop = c.loop-i in
-    number_over _ _ _ _ one_more loop.invariant.4 c.if-i-ge-MOST_DIGITS.true
+pub returns-in_default-3-clause-value : goal.returns-in_default-3-clause-value
+returns-in_default-3-clause-value c =
+    let loop = c.loop-b in
+    let more = field_next c.args.s.now loop.n _ _ loop.invariant.count c.loop-b-test.true refl (omega arith) in
+    number_not _ (sym loop.invariant.value ∙ value_high _ _ _ _ more (omega arith) (omega arith))
 
-pub overflow_mul-v : goal.overflow_mul-v
-overflow_mul-v c =
-    omega (arith, small _ _ c.loop-i.invariant.2 c.loop-i.invariant.1)
+pub loop-b-preserved : goal.loop-b-preserved
+loop-b-preserved c =
+    let loop = c.loop-b in
+    let more = field_next c.args.s.now loop.n _ _ loop.invariant.count c.loop-b-test.true refl (omega arith) in
+    record {
+      count = omega arith;
+      few = omega arith;
+      small = grown _ _ _ loop.invariant.small (omega arith);
+      value = value_next _ _ _ _ more (omega arith) (omega arith) ∙ loop.invariant.value;
+      left = omega (arith, ap length more);
+    }
 
-pub overflow_add-v : goal.overflow_add-v
-overflow_add-v c =
-    omega (arith, small _ _ c.loop-i.invariant.2 c.loop-i.invariant.1)
-
-pub loop-i-preserved : goal.loop-i-preserved
-loop-i-preserved c =
-    let one_more : first (drop c.loop-i.i c.args.s.now) ≡ c.wide-b.result ∷ first (drop (c.loop-i.i + 1) c.args.s.now) = field_next _ _ _ c.loop-i-test.true c.wide-b.ensures.0 c.if-b-eq-COMMA.false in
-    let f = one_more in
-    (omega arith, omega arith, grown _ _ _ c.loop-i.invariant.2 (omega arith), value_next _ _ _ _ f c.if-b-lt-ZERO.false c.if-b-gt-NINE.false ∙ c.loop-i.invariant.3, omega (arith, ap length f))
-
-pub returns-then-i-eq0 : goal.returns-then-i-eq0
-returns-then-i-eq0 c =
-    let no_more : first (drop c.loop-i.i c.args.s.now) ≡ [] = elim c.loop-i-test.branch [ else-loop-i-test w ↦ field_end _ _ w.loop-i-test.false | then-loop-i-test+then-b-eq-COMMA w ↦ field_comma _ _ _ w.loop-i-test.true w.wide-b.ensures.0 w.if-b-eq-COMMA.true ] in
-    let i = c.loop-i.invariant in
-    number_none _ _ _ i.1 i.3 i.4 no_more c.if-i-eq0.true
-
-pub returns-then-s-eq48 : goal.returns-then-s-eq48
-returns-then-s-eq48 c =
-    let no_more : first (drop c.loop-i.i c.args.s.now) ≡ [] = elim c.loop-i-test.branch [ else-loop-i-test w ↦ field_end _ _ w.loop-i-test.false | then-loop-i-test+then-b-eq-COMMA w ↦ field_comma _ _ _ w.loop-i-test.true w.wide-b.ensures.0 w.if-b-eq-COMMA.true ] in
-    let i = c.loop-i.invariant in
-    number_zero _ _ _ i.1 i.3 i.4 no_more (omega arith) c.if-s-eq48.true
-
-pub returns-else-s-eq48 : goal.returns-else-s-eq48
-returns-else-s-eq48 c =
-    let no_more : first (drop c.loop-i.i c.args.s.now) ≡ [] = elim c.loop-i-test.branch [ else-loop-i-test w ↦ field_end _ _ w.loop-i-test.false | then-loop-i-test+then-b-eq-COMMA w ↦ field_comma _ _ _ w.loop-i-test.true w.wide-b.ensures.0 w.if-b-eq-COMMA.true ] in
-    let i = c.loop-i.invariant in
-    number_many _ _ _ i.1 i.3 i.4 no_more (omega arith) c.if-s-eq48.false
-
-pub returns-else-several : goal.returns-else-several
-returns-else-several c =
-    let no_more : first (drop c.loop-i.i c.args.s.now) ≡ [] = elim c.loop-i-test.branch [ else-loop-i-test w ↦ field_end _ _ w.loop-i-test.false | then-loop-i-test+then-b-eq-COMMA w ↦ field_comma _ _ _ w.loop-i-test.true w.wide-b.ensures.0 w.if-b-eq-COMMA.true ] in
-    let i = c.loop-i.invariant in
-    number_one _ _ _ i.1 i.3 i.4 no_more c.if-i-eq0.false (omega arith)
+pub returns-clause-value : goal.returns-clause-value
+returns-clause-value c =
+    let loop = c.loop-b.invariant in
+    let no_more : first (drop c.loop-b.n c.args.s.now) ≡ [] =
+    elim c.loop-b-test.branch [
+      | else-loop-b-test w ↦ field_end c.args.s.now c.loop-b.n (omega arith)
+      | then-loop-b-test+in-44 w ↦ field_comma _ _ _ _ loop.count w.loop-b-test.true refl w.in-44.is
+    ] in
+    c.then_some.ensures ∙
+    elim c.if-n-gt0.branch [
+      | then-n-gt0 w ↦
+          elim c.if-several.branch [
+            | then-several u ↦ number_several _ _ _ loop.few loop.value loop.left no_more _ _ u.if-several.true u.padded-is w.then_some-is
+            | else-several u ↦ number_one _ _ _ loop.few loop.value loop.left no_more _ _ (omega arith) u.padded-is w.then_some-is
+          ]
+      | else-n-gt0 w ↦ number_none _ _ _ loop.few loop.value loop.left no_more _ w.if-n-gt0.false w.then_some-is
+    ]

@@ -1,27 +1,16 @@
 -- `reading_of` meets its contract. Assumes nothing.
-use mathlib.Core.Path.{sym, ◌∙◌}
-use Rattle.text.proofs.ReadingLaws.{open_fits, reading_open, reading_closed, reading_unknown, reading_none}
+use mathlib.Core.Path.{◌∙◌}
+use Rattle.text.proofs.BytesLaws.{begins_by, same_by}
+use Rattle.text.proofs.ReadingLaws.{reading_open, reading_closed, reading_last}
 use Rattle.text.proofs.reading.reading_of.Goals as goal
 
-pub slice_bounds-minutes-count : goal.slice_bounds-minutes-count
-slice_bounds-minutes-count c = open_fits _ (sym c.begins.ensures ∙ c.if-begins.true)
+pub returns-then-starts_with : goal.returns-then-starts_with
+returns-then-starts_with c = c.minutes.ensures ∙ reading_open _ (begins_by _ _ _ c.if-starts_with.ensures.value)
 
-pub slice_bounds-minutes-start : goal.slice_bounds-minutes-start
-slice_bounds-minutes-start c = open_fits _ (sym c.begins.ensures ∙ c.if-begins.true)
-
-pub returns-then-begins : goal.returns-then-begins
-returns-then-begins c = c.minutes.ensures ∙ reading_open _ (sym c.begins.ensures ∙ c.if-begins.true)
-
-pub returns-then-same : goal.returns-then-same
-returns-then-same c = reading_closed _ (sym c.same.ensures ∙ c.if-same.true)
-
-pub returns-then-same-2 : goal.returns-then-same-2
-returns-then-same-2 c = reading_unknown _ (sym c.same-2.ensures ∙ c.if-same-2.true)
+pub returns-then-eq : goal.returns-then-eq
+returns-then-eq c = reading_closed _ (same_by _ _ _ c.if-eq.ensures)
 
 pub returns : goal.returns
 returns c =
-    reading_none
-    _
-    (sym c.begins.ensures ∙ c.if-begins.false)
-    (sym c.same.ensures ∙ c.if-same.false)
-    (sym c.same-2.ensures ∙ c.if-same-2.false)
+    c.then_some.ensures
+    ∙ reading_last _ (begins_by _ _ _ c.if-starts_with.ensures.value) (same_by _ _ _ c.if-eq.ensures) _ (same_by _ _ _ c.eq-2.ensures)

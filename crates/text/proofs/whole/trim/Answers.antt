@@ -1,13 +1,10 @@
--- `text::whole::trim` meets its contract: a CR at the end, another byte there, and no byte. Assumes nothing.
-use native.Mathlib.Omega.{arith}
-use Rattle.text.proofs.EndLaws.{unended_cr, unended_not, unended_empty}
+-- `trim` meets its contract. Assumes nothing.
+use mathlib.Core.List.{List}
+use Prim.Native.Nat.{ℕ}
+use denote.Bor.{Bor}
+use mathlib.Core.Path.{refl, ◌∙◌, ap}
+use Rattle.text.proofs.EndLaws.{trimmed}
 use Rattle.text.proofs.whole.trim.Goals as goal
 
-pub returns-then-l-n-eq13 : goal.returns-then-l-n-eq13
-returns-then-l-n-eq13 c = (unended_cr _ c.if-l-n-eq13.true, omega arith)
-
-pub returns-then-n-gt0 : goal.returns-then-n-gt0
-returns-then-n-gt0 c = (unended_not _ c.if-l-n-eq13.false, omega arith)
-
 pub returns : goal.returns
-returns c = (unended_empty _ c.if-n-gt0.false, omega arith)
+returns c = ap (λ (x : Bor (List ℕ)). x.now) c.unwrap_or.ensures ∙ trimmed _ _ _ refl c.strip_suffix.ensures.cases

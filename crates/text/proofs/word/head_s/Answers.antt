@@ -1,12 +1,9 @@
 -- `head_s` meets its contract. Assumes nothing.
-use mathlib.Core.Path.{sym, ◌∙◌}
+use Rattle.std.proofs.Common.{rules}
 use Rattle.text.specs.Pieces.{head_in, lead_by}
+use Rattle.text.proofs.WordLaws.{head_or}
 use Rattle.text.proofs.word.head_s.Goals as goal
-
-pub returns-then-begins : goal.returns-then-begins
-unfolding head_in lead_by
-returns-then-begins c = simp (sym c.begins.ensures ∙ c.if-begins.true)
 
 pub returns : goal.returns
 unfolding head_in lead_by
-returns c = c.head_if.ensures ∙ simp (sym c.begins.ensures ∙ c.if-begins.false)
+returns c = search (rules, head_or)
