@@ -2,7 +2,8 @@
 #![tactic(auto)]
 
 use cabinet::Reading;
-use lists::MOST_LISTED;
+use lists::{MOST_LISTED, take_list};
+use run::Run;
 use types::Step;
 
 // How many steps one round of the list has.
@@ -28,82 +29,62 @@ fn list() -> [Step; ROUND] {
 
 // As many rounds as a list has room for, the last one cut short.
 fn whole_list() -> [Step; MOST_LISTED] {
-    let l = list();
+    let list = list();
     let mut steps = [Step::Other; MOST_LISTED];
-    let mut i: usize = 0;
-    while i < MOST_LISTED {
-        steps[i] = l[i % ROUND];
-        i += 1;
+    for (i, s) in steps.iter_mut().enumerate() {
+        *s = list[i % ROUND];
     }
     steps
 }
 
-// So many steps of such lists, each by itself; how many were accepted.
+fn fresh() -> Run {
+    run::start(4, 1, 1, 2).run
+}
+
+// So many of the steps, over and over, each by itself; how many were accepted.
+fn singly(steps: &[Step], turns: usize) -> u32 {
+    let mut run = fresh();
+    for s in steps.iter().cycle().take(turns) {
+        let _ = run.take(*s);
+    }
+    run.steps
+}
+
 #[unsafe(no_mangle)]
 pub extern "C" fn speed_singly(turns: usize) -> u32 {
-    let steps = whole_list();
-    let started = run::start(4, 1, 1, 2);
-    let mut r = started.run;
-    let mut i: usize = 0;
-    while i < turns {
-        let s = steps[i % MOST_LISTED];
-        let x = run::take(r, s);
-        r = x.run;
-        i += 1;
-    }
-    r.steps
+    singly(&whole_list(), turns)
 }
 
 // So many lists, each in one go.
 #[unsafe(no_mangle)]
 pub extern "C" fn speed_lists(lists: usize) -> u32 {
     let steps = whole_list();
-    let started = run::start(4, 1, 1, 2);
-    let mut r = started.run;
+    let mut run = fresh();
     let mut answers = [0; MOST_LISTED];
-    let mut j: usize = 0;
-    while j < lists {
-        let z = lists::take_list(r, steps, MOST_LISTED, &mut answers);
-        r = z.run;
-        j += 1;
+    for _ in 0..lists {
+        let _ = take_list(&mut run, &steps, &mut answers);
     }
-    r.steps
+    run.steps
 }
 
-// So many steps; how many of them were accepted.
 #[unsafe(no_mangle)]
 pub extern "C" fn speed_take(turns: usize) -> u32 {
-    let l = list();
-    let started = run::start(4, 1, 1, 2);
-    let mut r = started.run;
-    let mut i: usize = 0;
-    while i < turns {
-        let s = l[i % ROUND];
-        let x = run::take(r, s);
-        r = x.run;
-        i += 1;
-    }
-    r.steps
+    singly(&list(), turns)
 }
 
 // The damage check so many times, on the run after one round of the list; how often it passed.
 #[unsafe(no_mangle)]
 pub extern "C" fn speed_check(turns: usize) -> usize {
-    let l = list();
-    let started = run::start(4, 1, 1, 2);
-    let mut r = started.run;
+    let list = list();
+    let mut run = fresh();
     let mut passed: usize = 0;
-    let mut i: usize = 0;
-    while i < turns {
-        if i < ROUND {
-            let s = l[i];
-            let x = run::take(r, s);
-            r = x.run;
+    for i in 0..turns {
+        if let Some(s) = list.get(i) {
+            let _ = run.take(*s);
         }
-        if run::undamaged(r) {
+        if run.undamaged() {
             passed += 1;
         }
-        i += 1;
     }
     passed
 }
