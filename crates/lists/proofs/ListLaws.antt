@@ -132,11 +132,9 @@ module _ (run : Run) (steps : List Step) (table : List ℕ) where
 
 module _ (count places : ℕ) where
   pub fits_made : count ≤ most_listed → count ≤ places → fits count places ≡ true
-  unfolding fits
   fits_made h g = rw (le-leb count most_listed h, le-leb count places g)
 
   pub fits_says : fits count places ≡ true → (count ≤ most_listed) × (count ≤ places)
-  unfolding fits
   fits_says e =
       let b = both (leb count most_listed) (leb count places) e in
       (leb-true count most_listed b.0, leb-true count places b.1)

@@ -15,7 +15,7 @@ whole_number (Ok u) = 0
 whole_number (Err w) = 16
 
 -- S12.16, S21.2: not too many steps, and a place for the answer of each
-unfoldable pub fits : ℕ → ℕ → Bool
+abbrev pub fits : ℕ → ℕ → Bool
 fits count places = leb count most_listed && leb count places
 
 -- S21.3: the answers of the steps, taken singly

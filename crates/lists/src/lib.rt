@@ -28,7 +28,6 @@ impl From<NoRoom> for u8 {
 pub type Whole = Result<(), NoRoom>;
 
 // So many steps are a list, and each has a place.
-#[tactic(auto, unfolding(crate::specs::Whole::fits))]
 pub fn fits(count: usize, places: usize) -> bool
     ensures { result ≡ fits count places }
 {
@@ -36,6 +35,7 @@ pub fn fits(count: usize, places: usize) -> bool
 }
 
 // S20.9: the run is looked at once, before the first step: none of them damages it.
+#[tactic(auto, using(crate::proofs::ListLaws::list_untaken), unfolding(crate::specs::Whole::untaken_of))]
 pub fn take_list(run: &mut Run, steps: &[Step], answers: &mut [u8]) -> Whole
     ensures { (record { whole = result; run = run.new }, answers.new) ≡ list_of run.old steps.now answers.old }
 {

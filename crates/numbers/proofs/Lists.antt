@@ -27,7 +27,7 @@ module _ (count places : ℕ) where
   within e = le-ltb places count (leb-true count places e)
 
 room_number : (count places : ℕ) → ◌≡◌ {A = ℕ} (cond (fits count places) 0 16) (list_table_number count places)
-unfolding fits list_table_number
+unfolding list_table_number
 room_number count places = go _ _ refl refl
   where
     go : (t u : Bool) → leb count most_listed ≡ t → leb count places ≡ u

@@ -1,25 +1,12 @@
 -- `list_lent` meets its contract: no room, a table of another length, and the list of the run that has the lent records. Assumes nothing.
-use Rattle.std.proofs.Common.{ℕ, List, true, ◌≡◌, length, replicate, ap, sym, ◌∙◌, length-take-le}
+use Rattle.std.proofs.Common.{ℕ, List, true, ◌≡◌, length, replicate, ap, sym, ◌∙◌}
 use Rattle.desk_lists.specs.Names.{Cabinet, Listed, Ok, Run}
 use Rattle.lists.specs.Whole.{fits, in_front, list_of}
 use Rattle.lists.proofs.ListLaws.{fits_says, front_filled}
 use Rattle.desk.specs.Desk.{with_cabinets, nine_of}
-use Rattle.desk_lists.specs.Lent.{lent_untaken_of}
 use borrow.Author.Tests.{ne_eqb}
-use Rattle.desk_lists.proofs.LentLaws.{lent_untaken, list_wrong, list_right}
+use Rattle.desk_lists.proofs.LentLaws.{list_wrong, list_right}
 use Rattle.desk_lists.proofs.list_lent.Goals as goal
-
-pub returns-then-not-fits : goal.returns-then-not-fits
-unfolding lent_untaken_of
-returns-then-not-fits c =
-    let a = c.args in
-    lent_untaken a.run.now a.table.now a.steps.now a.answers.now (sym c.fits.ensures ∙ c.if-not-fits.true)
-
-pub slice_bounds-fill-end : goal.slice_bounds-fill-end
-slice_bounds-fill-end c = (fits_says _ _ (sym c.fits.ensures ∙ c.if-not-fits.false)).1
-
-pub slice_bounds-fill-end-then-table-run : goal.slice_bounds-fill-end-then-table-run
-slice_bounds-fill-end-then-table-run c = sym (length-take-le _ c.args.answers.now (fits_says _ _ (sym c.fits.ensures ∙ c.if-not-fits.false)).1)
 
 pub returns-then-table-run : goal.returns-then-table-run
 returns-then-table-run c =

@@ -1,19 +1,9 @@
 -- `take_list` meets its contract: each way to its answer. Assumes nothing.
-use Rattle.std.proofs.Common.{ℕ, List, true, replicate, ◌≡◌, length, sym, subst, ap, arith, ◌∙◌, length-take-le}
+use Rattle.std.proofs.Common.{ℕ, List, true, replicate, ◌≡◌, length, sym, subst, ap, arith, ◌∙◌}
 use Rattle.lists.specs.Names.{Ok}
-use Rattle.lists.specs.Whole.{fits, in_front, untaken_of}
-use Rattle.lists.proofs.ListLaws.{Going, list_untaken, list_taken, fits_says, front_filled, taken_damaged, going_none, going_next, going_all}
+use Rattle.lists.specs.Whole.{fits, in_front}
+use Rattle.lists.proofs.ListLaws.{Going, list_taken, fits_says, front_filled, taken_damaged, going_none, going_next, going_all}
 use Rattle.lists.proofs.take_list.Goals as goal
-
-pub returns-then-not-fits : goal.returns-then-not-fits
-unfolding untaken_of
-returns-then-not-fits c = let a = c.args in list_untaken a.run.now a.steps.now a.answers.now (sym c.fits.ensures ∙ c.if-not-fits.true)
-
-pub slice_bounds-fill-end : goal.slice_bounds-fill-end
-slice_bounds-fill-end c = (fits_says _ _ (sym c.fits.ensures ∙ c.if-not-fits.false)).1
-
-pub slice_bounds-fill-end-then-not-undamaged : goal.slice_bounds-fill-end-then-not-undamaged
-slice_bounds-fill-end-then-not-undamaged c = sym (length-take-le _ c.args.answers.now (fits_says _ _ (sym c.fits.ensures ∙ c.if-not-fits.false)).1)
 
 pub returns-then-not-undamaged : goal.returns-then-not-undamaged
 returns-then-not-undamaged c =
@@ -26,10 +16,6 @@ returns-then-not-undamaged c =
 
 pub loop-i-init : goal.loop-i-init
 loop-i-init c = going_none _ _ _ (sym c.undamaged.ensures ∙ c.if-not-undamaged.false)
-
-pub bounds-answers-i : goal.bounds-answers-i
-bounds-answers-i c =
-    omega (arith, c.loop-i.invariant.long, c.loop-i-test.true, (fits_says _ _ (sym c.fits.ensures ∙ c.if-not-fits.false)).1)
 
 pub loop-i-preserved : goal.loop-i-preserved
 loop-i-preserved c =
