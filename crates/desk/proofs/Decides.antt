@@ -24,7 +24,8 @@ use Rattle.desk.proofs.entrance.give_back.Reads as give-back
 abbrev pub LentPost : Run → List Cabinet → Step → Served → List Cabinet → Type 0
 LentPost run table s r after = (r ≡ lent_of run table s) × (after ≡ table_of run table s)
 
-pub step_lent_says : {M : Type 1} {𝓤 : Ura M} (𝓛 : Logic 𝓤) (at_mem : Memory → SProp 𝓤) (run : Routine → Fun 𝓤) (κs : _) (a : _) (g : _) (r : Lent) (e : _)
+pub step_lent_says : {M : Type 1} {𝓤 : Ura M} (𝓛 : Logic 𝓤) (at_mem : Memory → SProp 𝓤) (run : Routine → Fun 𝓤) (κs : _) (a : _) (g : _)
+    (r : Lent) (e : _)
     → (step-lent.clauses 𝓛 at_mem run κs a).ensures g r e ≡ fact 𝓤 (LentPost a.0.now a.1.0.now a.1.1.0 (record { answer = r; run = e.0.now }) e.1.0.now)
 step_lent_says 𝓛 at_mem run κs a g r e = refl
 

@@ -43,8 +43,10 @@ module _ (run : Run) (table : List Cabinet) (s : Step) where
         (table_of run table s ≡ take (length table) (step_of run s).run.cabinets)
     unfolding with_records with_cabinets
     as_first e =
-        let same_run : with_records run table ≡ run = rw (sym e) in
-        (as_step.0 ∙ ap (λ (r : Run). Ok (step_of r s).answer) same_run, as_step.2 ∙ ap (λ (r : Run). take (length table) (step_of r s).run.cabinets) same_run)
+        let same_run : with_records run table ≡ run = rw (sym e) in (
+          as_step.0 ∙ ap (λ (r : Run). Ok (step_of r s).answer) same_run,
+          as_step.2 ∙ ap (λ (r : Run). take (length table) (step_of r s).run.cabinets) same_run,
+        )
 
   -- answer 14, and only there
   pub wrong_length_says : length table ≢ run.plan.n → (lent_of run table s ≡ wrong_length run) × (table_of run table s ≡ table)
@@ -77,7 +79,8 @@ module _ (run : Run) (table : List Cabinet) (s : Step) where
 
   pub table_length : length (table_of run table s) ≡ length table
   table_length =
-      by_length (λ (z : Served) (l : List Cabinet). length l ≡ length table) (λ same. length-take-le (length table) (viewed run table s).run.cabinets long) refl
+      by_length (λ (z : Served) (l : List Cabinet). length l ≡ length table)
+      (λ same. length-take-le (length table) (viewed run table s).run.cabinets long) refl
 
   -- "a step changes at most one record in that table": the one that the step or its message names
   pub one_record : (i : ℕ) → i ≢ (met_at run (asked_of run s)).cabinet → get_or (table_of run table s) i no_cabinet ≡ get_or table i no_cabinet
@@ -113,8 +116,10 @@ module _ (run : Run) (table : List Cabinet) (s : Step) where
       by_length (λ (z : Served) (l : List Cabinet). z.answer ≡ Ok (Err w) → (z.run ≡ run) × (l ≡ table))
       (λ same e.
       let f : (viewed run table s).answer ≡ Err w = cc in
-      let kept : (viewed run table s).run ≡ with_records run table = step_refused (with_records run table) s w f in
-      (ap (λ (r : Run). with_cabinets r run.cabinets) kept, ap (λ (r : Run). take (length table) r.cabinets) kept ∙ take-append_seam table (replicate (most_cabinets - length table) fresh_cabinet)))
+      let kept : (viewed run table s).run ≡ with_records run table = step_refused (with_records run table) s w f in (
+        ap (λ (r : Run). with_cabinets r run.cabinets) kept,
+        ap (λ (r : Run). take (length table) r.cabinets) kept ∙ take-append_seam table (replicate (most_cabinets - length table) fresh_cabinet),
+      ))
       (λ e. (refl, refl))
 
   -- ---- "the run's own are neither read nor changed"

@@ -104,7 +104,8 @@ module _ (run : Run) (table : List Cabinet) (s : Step) where
             let far : most_cabinets < run.plan.n = omega (arith, leb-false (length table) most_cabinets e) in
             let seam = take-append_seam table (replicate (most_cabinets - length table) fresh_cabinet) in
             ap (λ (w : Stepped). given_back w.run.cabinets table) (broken far (nine_of table)) ∙ back_same table
-            ∙ sym (ap (λ (w : Stepped). take (length table) w.run.cabinets) (broken far (table ++ replicate (most_cabinets - length table) fresh_cabinet)) ∙ seam)
+            ∙ sym (ap (λ (w : Stepped). take (length table) w.run.cabinets)
+            (broken far (table ++ replicate (most_cabinets - length table) fresh_cabinet)) ∙ seam)
 
     pub lent_says : (z : Stepped) → z ≡ nine → answered run z ≡ lent_of run table s
     lent_says z e = ap (answered run) e ∙ nine_lent ∙ lent_right

@@ -11,8 +11,8 @@ drop_replicate zero (suc k) a = let e : 0 - suc k ≡ 0 = omega arith in rw e
 drop_replicate (suc n) (suc k) a = let e : suc n - suc k ≡ n - k = omega arith in rw e (drop_replicate n k a)
 
 -- `few` of the table are copied over as many of nine fresh cabinets
-pub nine_is : (table front : List Cabinet) (few : ℕ) (k : Cabinet) → few ≡ min (length table) most_cabinets → front ≡ take few table → k ≡ fresh_cabinet
-    → front ++ drop few (replicate most_cabinets k) ≡ nine_of table
+pub nine_is : (table front : List Cabinet) (few : ℕ) (k : Cabinet) → few ≡ min (length table) most_cabinets → front ≡ take few table
+    → k ≡ fresh_cabinet → front ++ drop few (replicate most_cabinets k) ≡ nine_of table
 unfolding nine_of
 nine_is table front few k f e g =
     let past : most_cabinets - few ≡ most_cabinets - length table = omega arith in

@@ -54,7 +54,8 @@ pub lent_list_cut : (run : Run) (l : List Cabinet) (xs ys : List Step) (t u : Li
 unfolding lent_taken_of
 lent_list_cut run l xs ys t u same few places =
     let first = lent_taken run l xs t (fits_made (length xs) (length t) (omega arith) (omega arith)) in
-    let whole = fits_made (length (xs ++ ys)) (length (t ++ u)) (omega (arith, length-append xs ys)) (omega (arith, length-append xs ys, length-append t u)) in
+    let whole =
+    fits_made (length (xs ++ ys)) (length (t ++ u)) (omega (arith, length-append xs ys)) (omega (arith, length-append xs ys, length-append t u)) in
     sym (lent_taken run l (xs ++ ys) (t ++ u) whole)
     ∙ taken_cut run l xs ys t u (sym same)
     ∙ ap₂ lent_joined first

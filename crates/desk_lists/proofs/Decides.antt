@@ -22,7 +22,8 @@ use Rattle.desk_lists.specs.contracts.list_lent as list-lent
 abbrev pub ListPost : Run → List Cabinet → List Step → List ℕ → Listed → List Cabinet → List ℕ → Type 0
 ListPost run records steps answers r after said = (r, after, said) ≡ lent_list_of run records steps answers
 
-pub list_lent_says : {M : Type 1} {𝓤 : Ura M} (𝓛 : Logic 𝓤) (at_mem : Memory → SProp 𝓤) (run : Routine → Fun 𝓤) (κs : _) (a : _) (g : _) (r : Whole) (e : _)
+pub list_lent_says : {M : Type 1} {𝓤 : Ura M} (𝓛 : Logic 𝓤) (at_mem : Memory → SProp 𝓤) (run : Routine → Fun 𝓤) (κs : _) (a : _) (g : _)
+    (r : Whole) (e : _)
     → (list-lent.clauses 𝓛 at_mem run κs a).ensures g r e
     ≡ fact 𝓤 (ListPost a.0.now a.1.0.now a.1.1.0.now a.1.1.1.0.now (record { whole = r; run = e.0.now }) e.1.0.now e.1.1.1.0.now)
 list_lent_says 𝓛 at_mem run κs a g r e = refl
@@ -47,7 +48,8 @@ abbrev pub LocalPost : Run → List Cabinet → ℕ → List Step → List ℕ �
 LocalPost run array len steps answers r said = (r, said) ≡ local_list_of run array len steps answers
 
 -- the first `len` records are lent: the call at that part of the array gives `local_list_of`, with the rest of the array as it was
-pub list_local_says : (run : Run) (array : List Cabinet) (len : ℕ) (steps : List Step) (answers : List ℕ) (r : Listed) (after : List Cabinet) (said : List ℕ)
+pub list_local_says : (run : Run) (array : List Cabinet) (len : ℕ) (steps : List Step) (answers : List ℕ)
+    (r : Listed) (after : List Cabinet) (said : List ℕ)
     → ListPost run (take len array) steps answers r after said
     → LocalPost run array len steps answers (record { listed = r; table = after ++ drop len array }) said
 unfolding local_list_of

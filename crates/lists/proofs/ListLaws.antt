@@ -6,7 +6,7 @@ use mathlib.Core.Path.{◌≡◌, refl, sym, ap, ap₂, ◌∙◌}
 use native.Mathlib.Numerals.{add-one}
 use native.Mathlib.Omega.{arith}
 use lib.ListN.{length, get_or, set, take, drop, replicate, length-append, length-set, length-replicate}
-use lib.Seq.{take-suc, take-length, length-take-le}
+use lib.Seq.{take-suc, take_all, length-take-le}
 use lib.Dec.{leb}
 use borrow.Author.Tests.{le-leb, leb-true}
 use Rattle.plan.proofs.RuleLaws.{both}
@@ -19,6 +19,17 @@ use Rattle.run.proofs.ListLaws.{run_append, run_more}
 use Rattle.run.proofs.UndamagedLaws.{step_undamaged}
 use Rattle.lists.specs.Names.{Listed, Ok, Run, Step, Stepped}
 use Rattle.lists.specs.Whole.{most_listed, fits, numbers_of, in_front, taken_of, untaken_of, list_of}
+
+-- ---- what fits
+
+module _ (count places : ℕ) where
+  pub fits_made : count ≤ most_listed → count ≤ places → fits count places ≡ true
+  fits_made h g = rw (le-leb count most_listed h, le-leb count places g)
+
+  pub fits_says : fits count places ≡ true → (count ≤ most_listed) × (count ≤ places)
+  fits_says e =
+      let b = both (leb count most_listed) (leb count places) e in
+      (leb-true count most_listed b.0, leb-true count places b.1)
 
 -- ---- what stands in front
 
@@ -36,10 +47,11 @@ front_more (m ∷ ns) [] n h = absurd (omega arith)
 front_more (m ∷ ns) (t ∷ table) n h = ap (λ (l : List ℕ). m ∷ l) (front_more ns table n (omega arith))
 
 -- one number for all
-pub front_filled : (count n : ℕ) (table front : List ℕ) → count ≤ length table → front ≡ replicate (length (take count table)) n
+pub front_filled : (count m n : ℕ) (table front : List ℕ) → fits count (length table) ≡ true → front ≡ replicate (length (take count table)) m → m ≡ n
     → front ++ drop count table ≡ in_front (replicate count n) table
 unfolding in_front
-front_filled count n table front h e = rw (length-replicate count n, e, length-take-le count table h)
+front_filled count m n table front h e is =
+    rw (e, length-take-le count table (fits_says count (length table) h).1, length-replicate count n, is)
 
 -- ---- the numbers
 
@@ -121,23 +133,14 @@ module _ (run : Run) (steps : List Step) (table : List ℕ) where
             ∙ ap (λ (l : List ℕ). in_front l table) (sym (numbers_more run (take i steps) (get_or steps i d)))
             ∙ ap (λ (l : List Step). in_front (numbers_of run l) table) (sym next)
 
-  pub going_all : (held : Run) (now : List ℕ) → Going run steps table (length steps) held now
+  pub going_all : (i : ℕ) (held : Run) (now : List ℕ) → Going run steps table i held now → length steps ≤ i
       → (record { whole = Ok tt; run = held }, now) ≡ taken_of run steps table
   unfolding taken_of
-  going_all held now g =
+  going_all i held now g over =
       ap₂ (λ (r : Run) (l : List ℕ). (record { whole = Ok tt; run = r }, l)) g.goes g.wrote
-      ∙ ap (λ (l : List Step). (record { whole = Ok tt; run = run_all run l }, in_front (numbers_of run l) table)) (take-length steps)
+      ∙ ap (λ (l : List Step). (record { whole = Ok tt; run = run_all run l }, in_front (numbers_of run l) table)) (take_all i steps over)
 
 -- ---- the call
-
-module _ (count places : ℕ) where
-  pub fits_made : count ≤ most_listed → count ≤ places → fits count places ≡ true
-  fits_made h g = rw (le-leb count most_listed h, le-leb count places g)
-
-  pub fits_says : fits count places ≡ true → (count ≤ most_listed) × (count ≤ places)
-  fits_says e =
-      let b = both (leb count most_listed) (leb count places) e in
-      (leb-true count most_listed b.0, leb-true count places b.1)
 
 module _ (run : Run) (steps : List Step) (table : List ℕ) where
   pub list_untaken : fits (length steps) (length table) ≡ false → untaken_of run table ≡ list_of run steps table
@@ -175,7 +178,8 @@ pub list_cut : (run : Run) (xs ys : List Step) (t u : List ℕ) → length t ≡
 unfolding taken_of
 list_cut run xs ys t u same few places =
     let first = list_taken run xs t (fits_made (length xs) (length t) (omega arith) (omega arith)) in
-    let whole = fits_made (length (xs ++ ys)) (length (t ++ u)) (omega (arith, length-append xs ys)) (omega (arith, length-append xs ys, length-append t u)) in
+    let whole =
+    fits_made (length (xs ++ ys)) (length (t ++ u)) (omega (arith, length-append xs ys)) (omega (arith, length-append xs ys, length-append t u)) in
     sym (list_taken run (xs ++ ys) (t ++ u) whole) ∙ taken_cut run xs ys t u (sym same)
     ∙ ap₂ joined first
     (list_taken (run_all run xs) ys u (fits_made (length ys) (length u) (omega arith) places)
