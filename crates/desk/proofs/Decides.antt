@@ -26,7 +26,8 @@ LentPost run table s r after = (r ≡ lent_of run table s) × (after ≡ table_o
 
 pub step_lent_says : {M : Type 1} {𝓤 : Ura M} (𝓛 : Logic 𝓤) (at_mem : Memory → SProp 𝓤) (run : Routine → Fun 𝓤) (κs : _) (a : _) (g : _)
     (r : Lent) (e : _)
-    → (step-lent.clauses 𝓛 at_mem run κs a).ensures g r e ≡ fact 𝓤 (LentPost a.0.now a.1.0.now a.1.1.0 (record { answer = r; run = e.0.now }) e.1.0.now)
+    → (step-lent.clauses 𝓛 at_mem run κs a).ensures g r e ≡ fact 𝓤
+    (LentPost a.0.now a.1.0.now a.1.1.0 (record { answer = r; run = e.0.now }) e.1.0.now)
 step_lent_says 𝓛 at_mem run κs a g r e = refl
 
 pub step_lent_decides : (run : Run) (table : List Cabinet) (s : Step) (r r' : Served) (after after' : List Cabinet)

@@ -1,6 +1,6 @@
--- Each public contract decides, and those of the call and of `fits` ask nothing of their caller: any two outcomes that it allows for the same
--- arguments agree on the answer, on every part of the next run and on every place of the table at exit. `Post` and `Pre` are the contract as the checker reads it in
--- src/, so a weaker one is refused here, and one that asks for something. Assumes nothing.
+-- Each public contract decides, and it asks nothing of its caller: any two outcomes that it allows for the same arguments agree on the answer,
+-- on every part of the next run and on every place of the table at exit. `Post` and `Pre` are the contract as the checker reads it in src/, so
+-- a weaker one is refused here, and one that asks for something. Assumes nothing.
 use Prim.Native.Nat.{ℕ}
 use mathlib.Core.Bool.{Bool}
 use mathlib.Core.List.{List}

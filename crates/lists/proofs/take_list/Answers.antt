@@ -23,7 +23,8 @@ loop-i-preserved c =
     let a = c.args in
     let places = (fits_says _ _ (sym c.fits.ensures ∙ c.if-not-fits.false)).1 in
     let l = c.loop-i in
-    going_next a.run.now a.steps.now a.answers.now places l.i l.run l.answers l.invariant c.loop-i-test.true _ _ c.go.ensures _ c.answer_number.ensures
+    going_next a.run.now a.steps.now a.answers.now places l.i l.run l.answers l.invariant c.loop-i-test.true
+    _ _ c.go.ensures _ c.answer_number.ensures
 
 pub returns : goal.returns
 returns c =
