@@ -1,15 +1,15 @@
 -- Laws of the hearing of a reply: which are awaited, which entry is the best, which reply ends its part, and what bounds the counters heard. Assumes nothing.
-use Prim.Native.Nat.{ℕ, ◌+◌, ◌≤◌, ◌<◌}
+use Prim.Native.Nat.{ℕ, ◌≤◌}
 use native.Mathlib.Omega.{arith}
 use mathlib.Core.Bool.{Bool, true, false, cond}
 use mathlib.Core.Path.{◌≡◌, refl, sym, ◌∙◌, ap}
 use lib.Dec.{eqb}
-use borrow.Author.Tests.{eq-eqb, ne_eqb, le-leb, lt-leb}
-use Rattle.client.specs.Names.{Body, Change, Client, Decision, Ending, Entry, Heard, Message, None, Option, Plan, Reading, Some, Told, Work}
+use borrow.Author.Tests.{eq-eqb, ne_eqb, le-leb}
+use Rattle.client.specs.Names.{Body, Client, Decision, Ending, Entry, Heard, Message, None, Option, Plan, Reading, Some, Told, Work}
 use Rattle.cabinet.specs.Entries.{factory_entry, takes}
-use Rattle.heard.specs.Heard.{none_heard, has_of, with_of, count_of}
+use Rattle.heard.specs.Heard.{has_of, with_of, count_of}
 use Rattle.client.specs.Begin.{part_of}
-use Rattle.client.specs.Hear.{told_stamp, told_entry, told_taken, told_by, awaits, told_of, best_of, chosen_by, discarded, counted, ended, first_write, first_read, second, hear_by, hears_of, told_counter}
+use Rattle.client.specs.Hear.{told_stamp, told_entry, told_taken, told_by, awaits, told_of, best_of, chosen_by, ended, first_write, first_read, second, hear_by, hears_of, told_counter}
 
 -- ---- which replies the open part awaits
 

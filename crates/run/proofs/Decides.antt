@@ -4,7 +4,7 @@
 use Prim.Native.Nat.{ℕ}
 use mathlib.Core.Path.{◌≡◌, sym, ap, ◌∙◌}
 use mathlib.Core.Bool.{Bool}
-use Rattle.run.specs.Names.{Answer, Run, Sight, Started, Stepped}
+use Rattle.run.specs.Names.{Answer, Sight, Started, Stepped}
 use Rattle.run.proofs.fresh.start.Reads as start
 use Rattle.run.proofs.gather.is_empty.Reads as is-empty
 use Rattle.run.proofs.Run.others_marked.Reads as others-marked
