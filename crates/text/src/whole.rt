@@ -56,7 +56,7 @@ pub fn find(s: &[u8], from: usize) -> Option<Found>
     let rest = &s[from..];
     let row = step_ahead(rest).or_else(|| by_end(rest))?;
     Some(Found {
-        step: row.step,
         end: from + row.end,
+        ..row
     })
 }
