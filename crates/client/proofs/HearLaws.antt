@@ -28,10 +28,6 @@ module _ (c : Client) (m : Message) where
       unfolding told_of
       await_again h = simp (eq-eqb _ _ same, sym ep, eq-eqb _ _ now, sym eh ∙ h)
 
-      pub await_in : (t : Option Told) → has ≡ false → t ≡ told_by c.work m.body → t ≡ told_of c m
-      unfolding told_of
-      await_in t h et = et ∙ simp (eq-eqb _ _ same, sym ep, eq-eqb _ _ now, sym eh ∙ h)
-
 -- ---- the best entry heard
 
 module _ (n : ℕ) (best e : Entry) where
@@ -142,7 +138,7 @@ module _ (plan : Plan) (i j : ℕ) (c : Client) (heard : Heard) (n : ℕ) (en : 
 
 -- `heard` is the set with the reply's cabinet, `s` what the reply says
 module _ (plan : Plan) (j : ℕ) (c : Client) (m : Message) (heard : Heard) (s : Option Told) (eh : heard ≡ with_of c.heard m.cabinet) (es : s ≡ told_of c m) where
-  hear_at : (t : Option Told) → s ≡ t → hear_by t plan m.client j c heard ≡ hears_of plan j c m
+  pub hear_at : (t : Option Told) → s ≡ t → hear_by t plan m.client j c heard ≡ hears_of plan j c m
   unfolding hears_of
   hear_at t g =
       ap (λ (h : Heard). hear_by t plan m.client j c h) eh

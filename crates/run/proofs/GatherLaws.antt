@@ -42,14 +42,3 @@ others_are p i (k ∷ l) = go (other p (i, k)) (rw add-one (others_are p (suc i)
     go : (b : Bool) → length rest ≡ others_from p (suc i) l → length (cond b ((i, k) ∷ rest) rest) ≡ cond b 1 0 + others_from p (suc i) l
     go true e = omega arith
     go false e = omega arith
-
-pub others_few : (p i : ℕ) (l : List Cabinet) → length (filter (other p) (enumerate_from i l)) ≤ length l
-others_few p i [] = omega arith
-others_few p i (k ∷ l) = go (other p (i, k)) (others_few p (i + 1) l)
-  where
-    rest : List (ℕ × Cabinet)
-    rest = filter (other p) (enumerate_from (i + 1) l)
-
-    go : (b : Bool) → length rest ≤ length l → length (cond b ((i, k) ∷ rest) rest) ≤ length (k ∷ l)
-    go true e = omega arith
-    go false e = omega arith
