@@ -7,7 +7,7 @@ use super::row::{Row, parse};
 use types::Step;
 
 // A row's step, `Other` where the row is none, and the place behind the row's LF.
-#[derive(Clone, Copy)]
+#[derive(Clone, Copy, PartialEq, Eq)]
 pub struct Found {
     pub step: Step,
     pub end: usize,
