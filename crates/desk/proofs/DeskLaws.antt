@@ -11,7 +11,7 @@ use lib.ListN.{length, get_or, take, replicate, length-append, get_or-append, ge
 use lib.Seq.{get_or-take, length-take-le, take-append_seam}
 use borrow.Author.Tests.{eqb-true, ne_eqb, ltb-true, ltb-false, lt-ltb, le-ltb}
 use Rattle.limits.specs.Limits.{most_cabinets}
-use Rattle.desk.specs.Names.{Answer, Cabinet, Lent, Plan, Refusal, Run, Served, Step}
+use Rattle.desk.specs.Names.{Cabinet, Err, Ok, Plan, Refusal, Run, Served, Step}
 use Rattle.cabinet.specs.Cabinets.{fresh_cabinet}
 use Rattle.cabinet.specs.Entries.{is_factory}
 use Rattle.types.specs.Parts.{no_cabinet, stored_in}
@@ -22,14 +22,14 @@ use Rattle.run.specs.Undamaged.{rest_sound, undamaged}
 use Rattle.run.proofs.FrameLaws.{step_cabinet, step_damaged, step_refused, step_lengths}
 use Rattle.run.proofs.MeetLaws.{asked_of, met_at}
 use Rattle.desk.specs.Desk.{with_cabinets, with_records, viewed, answered, wrong_length, lent_of, table_of}
-use Rattle.desk.proofs.ViewLaws.{lent_wrong, table_wrong, lent_right, table_right}
+use Rattle.desk.proofs.LendLaws.{lent_wrong, table_wrong, lent_right, table_right}
 
 -- ---- it answers as the first entrance
 
 module _ (run : Run) (table : List Cabinet) (s : Step) where
   module _ (same : length table ≡ run.plan.n) where
     -- as a step of the run with the lent records put in: the answer, the next run and the table
-    pub as_step : ((lent_of run table s).answer ≡ Lent.Answered (step_of (with_records run table) s).answer)
+    pub as_step : ((lent_of run table s).answer ≡ Ok (step_of (with_records run table) s).answer)
         × ((lent_of run table s).run ≡ with_cabinets (step_of (with_records run table) s).run run.cabinets)
         × (table_of run table s ≡ take (length table) (step_of (with_records run table) s).run.cabinets)
     unfolding viewed answered
@@ -39,12 +39,12 @@ module _ (run : Run) (table : List Cabinet) (s : Step) where
 
     -- a run whose own records are the lent ones answers the same through either entrance
     pub as_first : run.cabinets ≡ table ++ replicate (most_cabinets - length table) fresh_cabinet
-        → ((lent_of run table s).answer ≡ Lent.Answered (step_of run s).answer) ×
+        → ((lent_of run table s).answer ≡ Ok (step_of run s).answer) ×
         (table_of run table s ≡ take (length table) (step_of run s).run.cabinets)
     unfolding with_records with_cabinets
     as_first e =
         let same_run : with_records run table ≡ run = rw (sym e) in
-        (as_step.0 ∙ ap (λ (r : Run). Lent.Answered (step_of r s).answer) same_run, as_step.2 ∙ ap (λ (r : Run). take (length table) (step_of r s).run.cabinets) same_run)
+        (as_step.0 ∙ ap (λ (r : Run). Ok (step_of r s).answer) same_run, as_step.2 ∙ ap (λ (r : Run). take (length table) (step_of r s).run.cabinets) same_run)
 
   -- answer 14, and only there
   pub wrong_length_says : length table ≢ run.plan.n → (lent_of run table s ≡ wrong_length run) × (table_of run table s ≡ table)
@@ -99,18 +99,18 @@ module _ (run : Run) (table : List Cabinet) (s : Step) where
 
   -- ---- "Every refusal changes nothing"
 
-  pub refused_length : (lent_of run table s).answer ≡ Lent.WrongLength → ((lent_of run table s).run ≡ run) × (table_of run table s ≡ table)
+  pub refused_length : (lent_of run table s).answer ≡ Err (record {}) → ((lent_of run table s).run ≡ run) × (table_of run table s ≡ table)
   unfolding answered
   refused_length =
-      by_length (λ (z : Served) (l : List Cabinet). z.answer ≡ Lent.WrongLength → (z.run ≡ run) × (l ≡ table))
+      by_length (λ (z : Served) (l : List Cabinet). z.answer ≡ Err (record {}) → (z.run ≡ run) × (l ≡ table))
       (λ same e. absurd (let z : ◌≡◌ {A = ℕ} 0 1 = cc in omega arith))
       (λ e. (refl, refl))
 
-  pub refused : (w : Refusal) → (lent_of run table s).answer ≡ Lent.Answered (Err w)
+  pub refused : (w : Refusal) → (lent_of run table s).answer ≡ Ok (Err w)
       → ((lent_of run table s).run ≡ run) × (table_of run table s ≡ table)
   unfolding answered viewed with_records with_cabinets
   refused w =
-      by_length (λ (z : Served) (l : List Cabinet). z.answer ≡ Lent.Answered (Err w) → (z.run ≡ run) × (l ≡ table))
+      by_length (λ (z : Served) (l : List Cabinet). z.answer ≡ Ok (Err w) → (z.run ≡ run) × (l ≡ table))
       (λ same e.
       let f : (viewed run table s).answer ≡ Err w = cc in
       let kept : (viewed run table s).run ≡ with_records run table = step_refused (with_records run table) s w f in
@@ -167,6 +167,6 @@ module _ (run : Run) (table : List Cabinet) (s : Step) (same : length table ≡ 
 
   -- answer 1, with the lent records in place of the run's own
   pub lent_damaged : (rest_sound run && all_from (lent_sound run.plan run.steps) 0 table) ≡ false
-      → lent_of run table s ≡ record { answer = Lent.Answered (Err Refusal.Damaged); run = run }
+      → lent_of run table s ≡ record { answer = Ok (Err Refusal.Damaged); run = run }
   unfolding answered viewed with_records with_cabinets
   lent_damaged e = sym (lent_right run table s same) ∙ ap (answered run) (step_damaged (with_records run table) s (lent_undamaged ∙ e))

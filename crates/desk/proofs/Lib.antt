@@ -1,4 +1,4 @@
 pub mod Decides
 pub mod DeskLaws
+pub mod LendLaws
 pub mod TableLaws
-pub mod ViewLaws

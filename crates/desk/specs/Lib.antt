@@ -1,3 +1,2 @@
 pub mod Desk
 pub mod Names
-pub mod View

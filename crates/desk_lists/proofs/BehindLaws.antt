@@ -10,7 +10,7 @@ use lib.ListN.{length, get_or, take, replicate, length-append, length-replicate,
 use lib.Seq.{get_or-take, length-take-le, ext_get_or}
 use borrow.Author.Tests.{ltb-true, ltb-false}
 use Rattle.limits.specs.Limits.{most_cabinets}
-use Rattle.desk_lists.specs.Names.{Asked, Cabinet, Held, Plan, Run, Step, Stepped}
+use Rattle.desk_lists.specs.Names.{Asked, Cabinet, Err, Held, Ok, Plan, Refusal, Result, Run, Step, Stepped}
 use Rattle.cabinet.specs.Cabinets.{fresh_cabinet}
 use Rattle.cabinet.proofs.ListLaws.{getD_filled}
 use Rattle.admit.proofs.AdmitLaws.{Placed, admitted_placed}
@@ -31,7 +31,7 @@ module _ (run : Run) (i : ℕ) (past : run.plan.n ≤ i) (near : i < most_cabine
   off_message j (Held.Request m) f e = omega (arith, (address_says run.plan.n run.steps m f.0).2)
   off_message j (Held.Reply m) f e = omega arith
 
-  off_asked : undamaged run ≡ true → (a : Asked) → Placed run.plan.n a → i ≢ (met_at run a).cabinet
+  off_asked : undamaged run ≡ true → (a : Result Asked Refusal) → Placed run.plan.n a → i ≢ (met_at run a).cabinet
   unfolding slot_at
   off_asked whole (Err why) f e = omega arith
   off_asked whole (Ok (Asked.Begins c w)) f e = omega arith

@@ -3,12 +3,11 @@ use Prim.Native.Nat.{ℕ, suc, ◌+◌, ◌≤◌}
 use mathlib.Core.List.{List, [], ◌∷◌, ◌++◌}
 use mathlib.Core.Path.{◌≡◌, refl, sym, ap, ap₂, ◌∙◌}
 use native.Mathlib.Omega.{arith}
-use lib.ListN.{length, take, drop, length-append}
-use lib.Seq.{take-add, length-take-le}
+use lib.ListN.{length, length-append}
 use Rattle.desk.specs.Desk.{lent_number, lent_of, table_of}
 use Rattle.lists.specs.Whole.{most_listed}
 use Rattle.lists.proofs.ListLaws.{fits_made, front_cut}
-use Rattle.desk_lists.specs.Names.{Cabinet, Listed, Run, Step, Whole}
+use Rattle.desk_lists.specs.Names.{Cabinet, Listed, Ok, Run, Step}
 use Rattle.desk_lists.specs.Lent.{lent_run, lent_table, lent_numbers, lent_taken_of, lent_list_of}
 use Rattle.desk_lists.proofs.LentLaws.{lent_taken}
 
@@ -44,21 +43,20 @@ taken_cut run l xs ys t u e =
     let r : Run = lent_run run l xs in
     let m : List Cabinet = lent_table run l xs in
     rw (run_append run l xs ys, table_append run l xs ys, numbers_append run l xs ys)
-    (ap (λ (ns : List ℕ). (record { whole = Whole.Taken; run = lent_run r m ys }, lent_table r m ys, ns))
+    (ap (λ (ns : List ℕ). (record { whole = Ok tt; run = lent_run r m ys }, lent_table r m ys, ns))
     (front_cut (lent_numbers run l xs) (lent_numbers r m ys) t u (numbers_length run l xs ∙ e)))
 
 -- the second goes to the run and the records that the first one left
-pub lent_list_cut : (run : Run) (l : List Cabinet) (steps : List Step) (i j : ℕ) (t u : List ℕ) → length t ≡ i → i + j ≤ most_listed
-    → j ≤ length u → i ≤ length steps
-    → lent_list_of run l steps (i + j) (t ++ u)
-    ≡ lent_joined (lent_list_of run l steps i t)
-    (lent_list_of (lent_list_of run l steps i t).0.run (lent_list_of run l steps i t).1 (drop i steps) j u)
+pub lent_list_cut : (run : Run) (l : List Cabinet) (xs ys : List Step) (t u : List ℕ) → length t ≡ length xs → length xs + length ys ≤ most_listed
+    → length ys ≤ length u
+    → lent_list_of run l (xs ++ ys) (t ++ u)
+    ≡ lent_joined (lent_list_of run l xs t) (lent_list_of (lent_list_of run l xs t).0.run (lent_list_of run l xs t).1 ys u)
 unfolding lent_taken_of
-lent_list_cut run l steps i j t u same few places listed =
-    let first = lent_taken run l steps i t (fits_made i (length t) (omega arith) (omega arith)) in
-    sym (lent_taken run l steps (i + j) (t ++ u) (fits_made (i + j) (length (t ++ u)) few (omega (arith, length-append t u))))
-    ∙ ap (λ (ss : List Step). lent_taken_of run l ss (t ++ u)) (take-add i j steps)
-    ∙ taken_cut run l (take i steps) (take j (drop i steps)) t u (length-take-le i steps listed ∙ sym same)
+lent_list_cut run l xs ys t u same few places =
+    let first = lent_taken run l xs t (fits_made (length xs) (length t) (omega arith) (omega arith)) in
+    let whole = fits_made (length (xs ++ ys)) (length (t ++ u)) (omega (arith, length-append xs ys)) (omega (arith, length-append xs ys, length-append t u)) in
+    sym (lent_taken run l (xs ++ ys) (t ++ u) whole)
+    ∙ taken_cut run l xs ys t u (sym same)
     ∙ ap₂ lent_joined first
-    (lent_taken (lent_run run l (take i steps)) (lent_table run l (take i steps)) (drop i steps) j u (fits_made j (length u) (omega arith) places)
-    ∙ ap (λ (z : Listed × List Cabinet × List ℕ). lent_list_of z.0.run z.1 (drop i steps) j u) first)
+    (lent_taken (lent_run run l xs) (lent_table run l xs) ys u (fits_made (length ys) (length u) (omega arith) places)
+    ∙ ap (λ (z : Listed × List Cabinet × List ℕ). lent_list_of z.0.run z.1 ys u) first)

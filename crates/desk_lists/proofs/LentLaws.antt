@@ -1,32 +1,25 @@
 -- A list over a lent table is the list of the run that has these records: step by step, and each way through the entrance. Assumes nothing.
-use Prim.Native.Nat.{ℕ, ◌+◌, ◌-◌, ◌≤◌, ◌<◌}
-use mathlib.Core.Bool.{Bool, true, false, cond}
+use Prim.Native.Nat.{ℕ, ◌-◌, ◌≤◌, ◌<◌}
+use mathlib.Core.Bool.{Bool, true, false}
 use mathlib.Core.List.{List, [], ◌∷◌, ◌++◌}
 use mathlib.Core.Path.{◌≡◌, refl, sym, ap, ap₂, ◌∙◌}
 use native.Mathlib.Omega.{arith}
-use lib.Dec.{eqb, leb, ltb}
-use lib.ListN.{length, get_or, take, replicate, length-append, length-replicate}
-use lib.Seq.{get_or-take, length-take-le, take-append_seam}
-use borrow.Author.Tests.{leb-true, leb-false, ltb-true, ltb-false}
+use lib.Dec.{eqb, leb}
+use lib.ListN.{length, take, replicate}
+use lib.Seq.{take-append_seam}
+use borrow.Author.Tests.{leb-true, leb-false}
 use Rattle.limits.specs.Limits.{most_cabinets}
-use Rattle.types.specs.Parts.{no_cabinet}
 use Rattle.cabinet.specs.Cabinets.{fresh_cabinet}
 use Rattle.run.specs.Lists.{run_all}
 use Rattle.run.specs.Undamaged.{undamaged}
-use Rattle.run.proofs.FrameLaws.{step_lengths}
-use Rattle.run.proofs.UndamagedLaws.{all_by}
-use Rattle.desk.specs.Desk.{lent_number, with_cabinets, with_records, lent_of, table_of}
+use Rattle.desk.specs.Desk.{lent_number, with_cabinets, with_records, nine_of, given_back, lent_of, table_of}
 use Rattle.desk.proofs.DeskLaws.{as_step, own_kept, table_length}
-use Rattle.desk.proofs.TableLaws.{put_read}
-use Rattle.desk.proofs.ViewLaws.{nine_of, too_long, view_is, lent_wrong, table_wrong}
-use Rattle.lists.specs.Whole.{most_listed, fits, numbers_of, in_front, taken_of, untaken_of, list_of}
-use Rattle.lists.proofs.ListLaws.{fits_says, runs_damaged, numbers_damaged}
-use Rattle.desk_lists.specs.Names.{Cabinet, Listed, Made, Nine, Run, Step, Whole}
+use Rattle.desk.proofs.LendLaws.{too_long, view_is, back_few, back_same, lent_wrong, table_wrong}
+use Rattle.lists.specs.Whole.{fits, numbers_of, in_front, taken_of, list_of}
+use Rattle.lists.proofs.ListLaws.{list_taken, runs_damaged, numbers_damaged}
+use Rattle.desk_lists.specs.Names.{Cabinet, Listed, Ok, Run, Step}
 use Rattle.desk_lists.specs.Lent.{lent_run, lent_table, lent_numbers, lent_taken_of, lent_untaken_of, lent_list_of}
-use Rattle.desk_lists.specs.View.{wrong_of, made_by, made_of, record_at}
 use Rattle.desk_lists.proofs.BehindLaws.{behind_step, same_step}
-use Rattle.desk_lists.proofs.StoreLaws.{stored, stored_is}
-use Rattle.desk_lists.proofs.ViewLaws.{record_near, record_far}
 
 -- ---- a table of another length
 
@@ -71,47 +64,27 @@ behind_numbers run ys (s ∷ ss) same =
     (behind_numbers (lent_of run ys s).run (table_of run ys s) ss (same_step run ys s same)
     ∙ ap (λ (r : Run). numbers_of r ss) (behind_step run ys s same))
 
-behind_room : (run : Run) (ys : List Cabinet) (ss : List Step)
-    → length (run_all (with_records run ys) ss).cabinets ≡ length ys + (most_cabinets - length ys)
-unfolding with_records with_cabinets
-behind_room run ys ss =
-    all_by (λ (r : Run). length r.cabinets ≡ length ys + (most_cabinets - length ys))
-    (λ r s e. (step_lengths r s).cabinets ∙ e) (with_records run ys) ss
-    (length-append ys (replicate (most_cabinets - length ys) fresh_cabinet)
-    ∙ ap (λ (n : ℕ). length ys + n) (length-replicate (most_cabinets - length ys) fresh_cabinet))
-
--- ---- what nine records by value come to
+-- ---- what nine records in the run come to
 
 abbrev view_of : Run → List Cabinet → Run
-view_of run ys = with_cabinets run (nine_of ys).records
-
-abbrev after_of : Run → List Step → Nine
-after_of view ss = record { records = (run_all view ss).cabinets }
+view_of run ys = with_cabinets run (nine_of ys)
 
 -- the list of the run with nine records put in, against the list over the table
 record Same (run : Run) (ys : List Cabinet) (ss : List Step) : Type 0 where
   its_run : with_cabinets (run_all (view_of run ys) ss) run.cabinets ≡ lent_run run ys ss
-  its_records : stored (after_of (view_of run ys) ss) 0 ys ≡ lent_table run ys ss
+  its_records : given_back (run_all (view_of run ys) ss).cabinets ys ≡ lent_table run ys ss
   its_numbers : numbers_of (view_of run ys) ss ≡ lent_numbers run ys ss
 
 module _ (run : Run) (ys : List Cabinet) (same : length ys ≡ run.plan.n) (ss : List Step) where
   -- a line of at most nine: the view is the run behind the table
   few_same : length ys ≤ most_cabinets → Same run ys ss
   few_same few = record {
-    its_run = ap (λ (r : Run). with_cabinets (run_all r ss) run.cabinets) (view_is run ys few) ∙ sym (behind_run run ys ss same);
+    its_run = ap (λ (r : Run). with_cabinets (run_all r ss) run.cabinets) (view_is ys run few) ∙ sym (behind_run run ys ss same);
     its_records =
-        ap (λ (r : Run). stored (after_of r ss) 0 ys) (view_is run ys few)
-        ∙ stored_is (after_of (with_records run ys) ss) ys (take (length ys) l) (sym (length-take-le (length ys) l (omega (arith, room)))) (λ j h.
-        sym (record_near (after_of (with_records run ys) ss) j (get_or ys j no_cabinet) (omega arith)) ∙ sym (get_or-take (length ys) l j no_cabinet h))
-        ∙ sym (behind_records run ys ss same);
-    its_numbers = ap (λ (r : Run). numbers_of r ss) (view_is run ys few) ∙ sym (behind_numbers run ys ss same);
+        back_few ys few (run_all (view_of run ys) ss).cabinets
+        ∙ ap (λ (r : Run). take (length ys) (run_all r ss).cabinets) (view_is ys run few) ∙ sym (behind_records run ys ss same);
+    its_numbers = ap (λ (r : Run). numbers_of r ss) (view_is ys run few) ∙ sym (behind_numbers run ys ss same);
   }
-    where
-      l : List Cabinet
-      l = (run_all (with_records run ys) ss).cabinets
-
-      room : length l ≡ length ys + (most_cabinets - length ys)
-      room = behind_room run ys ss
 
   -- a longer one is damaged, so that nothing changes
   many_same : most_cabinets < length ys → Same run ys ss
@@ -121,8 +94,8 @@ module _ (run : Run) (ys : List Cabinet) (same : length ys ≡ run.plan.n) (ss :
         ap (λ (r : Run). with_cabinets r run.cabinets) (runs_damaged (view_of run ys) broken ss)
         ∙ sym (behind_run run ys ss same ∙ ap (λ (r : Run). with_cabinets r run.cabinets) (runs_damaged (with_records run ys) behind ss));
     its_records =
-        ap (λ (r : Run). stored (record { records = r.cabinets }) 0 ys) (runs_damaged (view_of run ys) broken ss)
-        ∙ stored_is (nine_of ys) ys ys refl kept
+        ap (λ (r : Run). given_back r.cabinets ys) (runs_damaged (view_of run ys) broken ss)
+        ∙ back_same ys
         ∙ sym (behind_records run ys ss same ∙ ap (λ (r : Run). take (length ys) r.cabinets) (runs_damaged (with_records run ys) behind ss)
         ∙ take-append_seam ys (replicate (most_cabinets - length ys) fresh_cabinet));
     its_numbers =
@@ -131,19 +104,10 @@ module _ (run : Run) (ys : List Cabinet) (same : length ys ≡ run.plan.n) (ss :
   }
     where
       broken : undamaged (view_of run ys) ≡ false
-      broken = too_long run (omega arith) (nine_of ys).records
+      broken = too_long run (omega arith) (nine_of ys)
 
       behind : undamaged (with_records run ys) ≡ false
       behind = too_long run (omega arith) (ys ++ replicate (most_cabinets - length ys) fresh_cabinet)
-
-      kept : (j : ℕ) → j < length ys → record_at (nine_of ys) j (get_or ys j no_cabinet) ≡ get_or ys j no_cabinet
-      kept j h = go _ refl
-        where
-          go : (t : Bool) → ltb j most_cabinets ≡ t → record_at (nine_of ys) j (get_or ys j no_cabinet) ≡ get_or ys j no_cabinet
-          go true e =
-              let low = ltb-true j most_cabinets e in
-              sym (record_near (nine_of ys) j (get_or ys j no_cabinet) low) ∙ put_read most_cabinets fresh_cabinet ys j no_cabinet low h
-          go false e = sym (record_far (nine_of ys) j (get_or ys j no_cabinet) (ltb-false j most_cabinets e))
 
   all_same : Same run ys ss
   all_same = go _ refl
@@ -154,49 +118,27 @@ module _ (run : Run) (ys : List Cabinet) (same : length ys ≡ run.plan.n) (ss :
 
 -- ---- the entrance
 
-pub lent_taken : (run : Run) (ys : List Cabinet) (steps : List Step) (count : ℕ) (table : List ℕ) → fits count (length table) ≡ true
-    → lent_taken_of run ys (take count steps) table ≡ lent_list_of run ys steps count table
-unfolding lent_list_of
-lent_taken run ys steps count table e = rw e
+module _ (run : Run) (ys : List Cabinet) (steps : List Step) (table : List ℕ) where
+  pub lent_taken : fits (length steps) (length table) ≡ true → lent_taken_of run ys steps table ≡ lent_list_of run ys steps table
+  unfolding lent_list_of
+  lent_taken e = rw e
 
-module _ (run : Run) (ys : List Cabinet) (steps : List Step) (count : ℕ) (table : List ℕ) (full : length steps ≡ most_listed) where
-  -- the steps that are taken
-  listed : fits count (length table) ≡ true → length (take count steps) ≡ count
-  listed e = length-take-le count steps (omega (arith, (fits_says count (length table) e).0))
+  pub lent_untaken : fits (length steps) (length table) ≡ false → lent_untaken_of run ys table ≡ lent_list_of run ys steps table
+  unfolding lent_list_of
+  lent_untaken e = rw e
 
-  abbrev beside : List Cabinet → Listed × List ℕ → Listed × List Cabinet × List ℕ
-  beside l z = (z.0, l, z.1)
+  pub list_wrong : fits (length steps) (length table) ≡ true → eqb (length ys) run.plan.n ≡ false
+      → (record { whole = Ok tt; run = run }, ys, in_front (replicate (length steps) 14) table) ≡ lent_list_of run ys steps table
+  unfolding lent_taken_of
+  list_wrong f other = rw (wrong_run run ys other steps, wrong_table run ys other steps, wrong_numbers run ys other steps) at lent_taken f
 
-  pub list_wrong : (r : Listed) (after : List ℕ) → eqb (length ys) run.plan.n ≡ false → (r, after) ≡ wrong_of run count table
-      → (r, ys, after) ≡ lent_list_of run ys steps count table
-  unfolding wrong_of lent_list_of lent_taken_of lent_untaken_of untaken_of
-  list_wrong r after other e = ap (beside ys) e ∙ go _ refl
-    where
-      go : (t : Bool) → fits count (length table) ≡ t
-          → beside ys (cond t (record { whole = Whole.Taken; run = run }, in_front (replicate count 14) table) (untaken_of run table))
-          ≡ cond t (lent_taken_of run ys (take count steps) table) (lent_untaken_of run ys table)
-      go true f =
-          rw (
-            wrong_run run ys other (take count steps),
-            wrong_table run ys other (take count steps),
-            wrong_numbers run ys other (take count steps),
-            listed f,
-          )
-      go false f = refl
+  -- what comes of a list of the run with nine records, when the table is given back
+  abbrev pub puts : Listed × List ℕ → Listed × List Cabinet × List ℕ
+  puts z = (record { whole = z.0.whole; run = with_cabinets z.0.run run.cabinets }, given_back z.0.run.cabinets ys, z.1)
 
-  -- what is made of nine records, with these stored
-  abbrev puts : Made × List ℕ → Listed × List Cabinet × List ℕ
-  puts z = (z.0.listed, stored z.0.records 0 ys, z.1)
-
-  pub list_right : (m : Made) (after : List ℕ) → length ys ≡ run.plan.n → (m, after) ≡ made_of run (nine_of ys) steps count table
-      → (m.listed, stored m.records 0 ys, after) ≡ lent_list_of run ys steps count table
-  unfolding made_of list_of taken_of untaken_of lent_list_of lent_taken_of lent_untaken_of run_all
-  list_right m after same e = ap puts e ∙ go _ refl
-    where
-      go : (t : Bool) → fits count (length table) ≡ t
-          → puts (made_by run (cond t (taken_of (view_of run ys) (take count steps) table) (untaken_of (view_of run ys) table)))
-          ≡ cond t (lent_taken_of run ys (take count steps) table) (lent_untaken_of run ys table)
-      go true f =
-          let z = all_same run ys same (take count steps) in
-          rw (sym z.its_run, sym z.its_records, sym z.its_numbers)
-      go false f = let z = all_same run ys same [] in rw (z.its_run, z.its_records)
+  pub list_right : (z : Listed × List ℕ) → fits (length steps) (length table) ≡ true → length ys ≡ run.plan.n
+      → z ≡ list_of (with_cabinets run (nine_of ys)) steps table → puts z ≡ lent_list_of run ys steps table
+  unfolding taken_of lent_taken_of
+  list_right z f same e =
+      let s = all_same run ys same steps in
+      ap puts (e ∙ sym (list_taken (view_of run ys) steps table f)) ∙ rw (s.its_run, s.its_records, s.its_numbers) (lent_taken f)

@@ -1,27 +1,28 @@
 // A list of steps in one go over the desk's lent table of cabinet records, each step answered as the lent entrance answers it.
 #![tactic(auto)]
 
-mod array;
-mod entrance;
-mod records;
+ghost use Rattle.std.specs.Prelude.{◌≡◌};
+ghost use Rattle.desk_lists.specs.Lent.{lent_list_of};
 
-pub use array::list_local;
 use cabinet::Cabinet;
-use desk::Nine;
-pub use entrance::list_lent;
-use limits::MOST_CABINETS;
-use lists::Listed;
+use desk::{WrongLength, give_back, lend};
+use lists::{NoRoom, Whole, fits, take_list};
+use run::Run;
+use types::Step;
 
-// What a list makes of the run, and of the records that stood in it.
-#[derive(Clone, Copy)]
-pub struct Made {
-    pub records: Nine,
-    pub listed: Listed,
-}
-
-// A table that was lent out of an array comes back with the rest of the array.
-#[derive(Clone, Copy)]
-pub struct Local {
-    pub listed: Listed,
-    pub table: [Cabinet; MOST_CABINETS],
+// S20.9, S21.6: the records are lent once for the whole list.
+pub fn list_lent(run: &mut Run, table: &mut [Cabinet], steps: &[Step], answers: &mut [u8]) -> Whole
+    ensures { (record { whole = result; run = run.new }, table.new, answers.new) ≡ lent_list_of run.old table.old steps.now answers.old }
+{
+    if !fits(steps.len(), answers.len()) {
+        return Err(NoRoom);
+    }
+    if table.len() != run.plan.n as usize {
+        answers[..steps.len()].fill(u8::from(WrongLength));
+        return Ok(());
+    }
+    let own = lend(run, table);
+    let whole = take_list(run, steps, answers);
+    give_back(run, table, &own);
+    whole
 }

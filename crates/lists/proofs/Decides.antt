@@ -5,16 +5,15 @@ use Prim.Native.Nat.{ℕ}
 use mathlib.Core.Bool.{Bool}
 use mathlib.Core.List.{List}
 use mathlib.Core.Path.{◌≡◌, sym, ap, ◌∙◌}
-use Rattle.lists.specs.Names.{Listed}
-use Rattle.lists.proofs.each.fill.Reads as fill
+use Rattle.lists.specs.Names.{Listed, Whole}
 use Rattle.lists.proofs.fits.Reads as fits
 use Rattle.lists.proofs.take_list.Reads as take-list
 
-pub take_list_decides : (κs : _) (a : _) (r r' : Listed) (s s' : _) → take-list.Post κs a r s → take-list.Post κs a r' s'
-    → (r ≡ r') × (s.1.1.1.0.now ≡ s'.1.1.1.0.now)
+pub take_list_decides : (κs : _) (a : _) (r r' : Whole) (s s' : _) → take-list.Post κs a r s → take-list.Post κs a r' s'
+    → (r ≡ r') × (s.0.now ≡ s'.0.now) × (s.1.1.0.now ≡ s'.1.1.0.now)
 take_list_decides κs a r r' s s' p q =
     let e = p ∙ sym q in
-    (ap (λ (z : Listed × List ℕ). z.0) e, ap (λ (z : Listed × List ℕ). z.1) e)
+    (ap (λ (z : Listed × List ℕ). z.0.whole) e, ap (λ (z : Listed × List ℕ). z.0.run) e, ap (λ (z : Listed × List ℕ). z.1) e)
 
 pub take_list_any : (κs : _) (a : _) → take-list.Pre κs a
 take_list_any κs a = tt
@@ -24,6 +23,3 @@ fits_decides κs a x y s s' p q = p ∙ sym q
 
 pub fits_any : (κs : _) (a : _) → fits.Pre κs a
 fits_any κs a = tt
-
-pub fill_decides : (κs : _) (a : _) (r r' : _) (s s' : _) → fill.Post κs a r s → fill.Post κs a r' s' → s.0.now ≡ s'.0.now
-fill_decides κs a r r' s s' p q = p ∙ sym q

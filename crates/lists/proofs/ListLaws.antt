@@ -1,14 +1,14 @@
 -- Laws of a list of steps in one go: what stands in front of the table, one step more, a damaged run, a list cut in two. Assumes nothing.
-use Prim.Native.Nat.{ℕ, zero, suc, ◌+◌, ◌<◌, ◌≤◌}
+use Prim.Native.Nat.{ℕ, suc, ◌+◌, ◌<◌, ◌≤◌}
 use mathlib.Core.Bool.{true, false}
 use mathlib.Core.List.{List, [], ◌∷◌, ◌++◌}
 use mathlib.Core.Path.{◌≡◌, refl, sym, ap, ap₂, ◌∙◌}
 use native.Mathlib.Numerals.{add-one}
 use native.Mathlib.Omega.{arith}
 use lib.ListN.{length, get_or, set, take, drop, replicate, length-append, length-set, length-replicate}
-use lib.Seq.{take-suc, take-add, length-take-le}
+use lib.Seq.{take-suc, take-length, length-take-le}
 use lib.Dec.{leb}
-use borrow.Author.Tests.{le-leb, lt-leb, leb-true}
+use borrow.Author.Tests.{le-leb, leb-true}
 use Rattle.plan.proofs.RuleLaws.{both}
 use Rattle.types.specs.Answers.{answer_number}
 use Rattle.run.specs.Lists.{run_all}
@@ -17,7 +17,7 @@ use Rattle.run.specs.Undamaged.{undamaged}
 use Rattle.run.proofs.FrameLaws.{step_damaged}
 use Rattle.run.proofs.ListLaws.{run_append, run_more}
 use Rattle.run.proofs.UndamagedLaws.{step_undamaged}
-use Rattle.lists.specs.Names.{Listed, Run, Step, Stepped, Whole}
+use Rattle.lists.specs.Names.{Listed, Ok, Run, Step, Stepped}
 use Rattle.lists.specs.Whole.{most_listed, fits, numbers_of, in_front, taken_of, untaken_of, list_of}
 
 -- ---- what stands in front
@@ -34,6 +34,12 @@ front_more [] [] n h = absurd (omega arith)
 front_more [] (t ∷ table) n h = refl
 front_more (m ∷ ns) [] n h = absurd (omega arith)
 front_more (m ∷ ns) (t ∷ table) n h = ap (λ (l : List ℕ). m ∷ l) (front_more ns table n (omega arith))
+
+-- one number for all
+pub front_filled : (count n : ℕ) (table front : List ℕ) → count ≤ length table → front ≡ replicate (length (take count table)) n
+    → front ++ drop count table ≡ in_front (replicate count n) table
+unfolding in_front
+front_filled count n table front h e = rw (length-replicate count n, e, length-take-le count table h)
 
 -- ---- the numbers
 
@@ -66,37 +72,34 @@ module _ (run : Run) (broken : undamaged run ≡ false) where
   numbers_damaged [] = refl
   numbers_damaged (s ∷ ss) = rw (step_damaged run s broken) (ap (λ (l : List ℕ). 1 ∷ l) (numbers_damaged ss))
 
-  pub taken_damaged : (steps : List Step) (count : ℕ) (table : List ℕ) → count ≤ length steps
-      → (record { whole = Whole.Taken; run = run }, in_front (replicate count 1) table) ≡ taken_of run (take count steps) table
+  pub taken_damaged : (steps : List Step) (table : List ℕ)
+      → (record { whole = Ok tt; run = run }, in_front (replicate (length steps) 1) table) ≡ taken_of run steps table
   unfolding taken_of
-  taken_damaged steps count table h =
-      rw (runs_damaged (take count steps), numbers_damaged (take count steps), length-take-le count steps h)
+  taken_damaged steps table = rw (runs_damaged steps, numbers_damaged steps)
 
 -- ---- the loop: i steps are taken, and their numbers stand in front
 
-pub record Going (run : Run) (steps : List Step) (count : ℕ) (table : List ℕ) (i : ℕ) (held : Run) (now : List ℕ) : Type 0 where
-  pub within : i ≤ count
+pub record Going (run : Run) (steps : List Step) (table : List ℕ) (i : ℕ) (held : Run) (now : List ℕ) : Type 0 where
   pub sound : undamaged held ≡ true
   pub goes : held ≡ run_all run (take i steps)
   pub wrote : now ≡ in_front (numbers_of run (take i steps)) table
   pub long : length now ≡ length table
 
-module _ (run : Run) (steps : List Step) (count : ℕ) (table : List ℕ) where
-  pub going_none : undamaged run ≡ true → Going run steps count table 0 run table
+module _ (run : Run) (steps : List Step) (table : List ℕ) where
+  pub going_none : undamaged run ≡ true → Going run steps table 0 run table
   unfolding run_all numbers_of
-  going_none whole = record { within = omega arith; sound = whole; goes = refl; wrote = sym (front_none table); long = refl }
+  going_none whole = record { sound = whole; goes = refl; wrote = sym (front_none table); long = refl }
 
-  module _ (listed : count ≤ length steps) (places : count ≤ length table) (i : ℕ) (held : Run) (now : List ℕ) (g : Going run steps count table i held now)
-      (more : i < count) (d : Step) (x : Stepped) (took : x ≡ step_of held (get_or steps i d)) where
+  module _ (places : length steps ≤ length table) (i : ℕ) (held : Run) (now : List ℕ) (g : Going run steps table i held now)
+      (more : i < length steps) (d : Step) (x : Stepped) (took : x ≡ step_of held (get_or steps i d)) where
     next : take (i + 1) steps ≡ take i steps ++ (get_or steps i d ∷ [])
     next = rw (add-one i) (take-suc steps i d (omega arith))
 
     taken : length (numbers_of run (take i steps)) ≡ i
     taken = numbers_length run (take i steps) ∙ length-take-le i steps (omega arith)
 
-    pub going_next : (n : ℕ) → n ≡ answer_number x.answer → Going run steps count table (i + 1) x.run (set now i n)
+    pub going_next : (n : ℕ) → n ≡ answer_number x.answer → Going run steps table (i + 1) x.run (set now i n)
     going_next n is = record {
-      within = omega arith;
       sound = rw took (step_undamaged held (get_or steps i d) g.sound);
       goes =
           ap (λ (y : Stepped). y.run) took ∙ ap (λ (r : Run). (step_of r (get_or steps i d)).run) g.goes
@@ -118,52 +121,19 @@ module _ (run : Run) (steps : List Step) (count : ℕ) (table : List ℕ) where
             ∙ ap (λ (l : List ℕ). in_front l table) (sym (numbers_more run (take i steps) (get_or steps i d)))
             ∙ ap (λ (l : List Step). in_front (numbers_of run l) table) (sym next)
 
-  pub going_all : (i : ℕ) (held : Run) (now : List ℕ) → Going run steps count table i held now → count ≤ i
-      → (record { whole = Whole.Taken; run = held }, now) ≡ taken_of run (take count steps) table
+  pub going_all : (held : Run) (now : List ℕ) → Going run steps table (length steps) held now
+      → (record { whole = Ok tt; run = held }, now) ≡ taken_of run steps table
   unfolding taken_of
-  going_all i held now g over = let e : i ≡ count = omega (arith, g.within) in
-      rw (sym e) (ap₂ (λ (r : Run) (l : List ℕ). (record { whole = Whole.Taken; run = r }, l)) g.goes g.wrote)
-
--- ---- one number for all
-
-pub record Filling (count number : ℕ) (table : List ℕ) (i : ℕ) (now : List ℕ) : Type 0 where
-  pub within : i ≤ count
-  pub wrote : now ≡ in_front (replicate i number) table
-  pub long : length now ≡ length table
-
-replicate_more : (i n : ℕ) → replicate (suc i) n ≡ replicate i n ++ (n ∷ [])
-replicate_more zero n = refl
-replicate_more (suc i) n = ap (λ (l : List ℕ). n ∷ l) (replicate_more i n)
-
-module _ (count number : ℕ) (table : List ℕ) where
-  pub filling_none : Filling count number table 0 table
-  filling_none = record { within = omega arith; wrote = sym (front_none table); long = refl }
-
-  pub filling_next : count ≤ length table → (i : ℕ) (now : List ℕ) → Filling count number table i now → i < count
-      → Filling count number table (i + 1) (set now i number)
-  filling_next places i now g more = record {
-    within = omega arith;
-    wrote =
-        ap₂ (λ (l : List ℕ) (k : ℕ). set l k number) g.wrote (sym (length-replicate i number))
-        ∙ front_more (replicate i number) table number (omega (arith, length-replicate i number))
-        ∙ ap (λ (l : List ℕ). in_front l table) (sym (replicate_more i number))
-        ∙ ap (λ (k : ℕ). in_front (replicate k number) table) (sym (add-one i));
-    long = length-set now i number ∙ g.long;
-  }
+  going_all held now g =
+      ap₂ (λ (r : Run) (l : List ℕ). (record { whole = Ok tt; run = r }, l)) g.goes g.wrote
+      ∙ ap (λ (l : List Step). (record { whole = Ok tt; run = run_all run l }, in_front (numbers_of run l) table)) (take-length steps)
 
 -- ---- the call
 
 module _ (count places : ℕ) where
-  pub fits_many : most_listed < count → false ≡ fits count places
-  unfolding fits
-  fits_many h = rw (lt-leb count most_listed h)
-
-  pub fits_by : count ≤ most_listed → leb count places ≡ fits count places
-  unfolding fits
-  fits_by h = rw (le-leb count most_listed h)
-
   pub fits_made : count ≤ most_listed → count ≤ places → fits count places ≡ true
-  fits_made h g = sym (fits_by h) ∙ le-leb count places g
+  unfolding fits
+  fits_made h g = rw (le-leb count most_listed h, le-leb count places g)
 
   pub fits_says : fits count places ≡ true → (count ≤ most_listed) × (count ≤ places)
   unfolding fits
@@ -171,12 +141,12 @@ module _ (count places : ℕ) where
       let b = both (leb count most_listed) (leb count places) e in
       (leb-true count most_listed b.0, leb-true count places b.1)
 
-module _ (run : Run) (steps : List Step) (count : ℕ) (table : List ℕ) where
-  pub list_untaken : fits count (length table) ≡ false → untaken_of run table ≡ list_of run steps count table
+module _ (run : Run) (steps : List Step) (table : List ℕ) where
+  pub list_untaken : fits (length steps) (length table) ≡ false → untaken_of run table ≡ list_of run steps table
   unfolding list_of
   list_untaken e = rw e
 
-  pub list_taken : fits count (length table) ≡ true → taken_of run (take count steps) table ≡ list_of run steps count table
+  pub list_taken : fits (length steps) (length table) ≡ true → taken_of run steps table ≡ list_of run steps table
   unfolding list_of
   list_taken e = rw e
 
@@ -198,18 +168,17 @@ taken_cut : (run : Run) (xs ys : List Step) (t u : List ℕ) → length xs ≡ l
 unfolding taken_of
 taken_cut run xs ys t u e =
     rw (run_append run xs ys, numbers_append run xs ys)
-    (ap (λ (l : List ℕ). (record { whole = Whole.Taken; run = run_all (run_all run xs) ys }, l))
+    (ap (λ (l : List ℕ). (record { whole = Ok tt; run = run_all (run_all run xs) ys }, l))
     (front_cut (numbers_of run xs) (numbers_of (run_all run xs) ys) t u (numbers_length run xs ∙ e)))
 
 -- the second goes to the run that the first one left
-pub list_cut : (run : Run) (steps : List Step) (i j : ℕ) (t u : List ℕ) → length t ≡ i → i + j ≤ most_listed → j ≤ length u → i ≤ length steps
-    → list_of run steps (i + j) (t ++ u) ≡ joined (list_of run steps i t) (list_of (list_of run steps i t).0.run (drop i steps) j u)
+pub list_cut : (run : Run) (xs ys : List Step) (t u : List ℕ) → length t ≡ length xs → length xs + length ys ≤ most_listed → length ys ≤ length u
+    → list_of run (xs ++ ys) (t ++ u) ≡ joined (list_of run xs t) (list_of (list_of run xs t).0.run ys u)
 unfolding taken_of
-list_cut run steps i j t u same few places listed =
-    let first = list_taken run steps i t (fits_made i (length t) (omega arith) (omega arith)) in
-    sym (list_taken run steps (i + j) (t ++ u) (fits_made (i + j) (length (t ++ u)) few (omega (arith, length-append t u))))
-    ∙ ap (λ (l : List Step). taken_of run l (t ++ u)) (take-add i j steps)
-    ∙ taken_cut run (take i steps) (take j (drop i steps)) t u (length-take-le i steps listed ∙ sym same)
+list_cut run xs ys t u same few places =
+    let first = list_taken run xs t (fits_made (length xs) (length t) (omega arith) (omega arith)) in
+    let whole = fits_made (length (xs ++ ys)) (length (t ++ u)) (omega (arith, length-append xs ys)) (omega (arith, length-append xs ys, length-append t u)) in
+    sym (list_taken run (xs ++ ys) (t ++ u) whole) ∙ taken_cut run xs ys t u (sym same)
     ∙ ap₂ joined first
-    (list_taken (run_all run (take i steps)) (drop i steps) j u (fits_made j (length u) (omega arith) places)
-    ∙ ap (λ (z : Listed × List ℕ). list_of z.0.run (drop i steps) j u) first)
+    (list_taken (run_all run xs) ys u (fits_made (length ys) (length u) (omega arith) places)
+    ∙ ap (λ (z : Listed × List ℕ). list_of z.0.run ys u) first)

@@ -1,58 +1,53 @@
 // A list of steps in one go: the run after all of them, and the number of each answer in a lent table.
 #![tactic(auto)]
 
-mod each;
-
 ghost use Rattle.std.specs.Prelude.{◌≡◌};
-ghost use Rattle.lists.specs.Whole.{fits, list_of};
+ghost use Rattle.lists.specs.Names.{Err};
+ghost use Rattle.lists.specs.Whole.{fits, list_of, whole_number};
 
-pub use each::fill;
-use run::{Run, undamaged};
-use types::Step;
+use run::Run;
+use types::{Refusal, Step, answer_number};
 
-// A morning's list, and no more than a desk holds by value.
+// A morning's list, and no more than a desk answers at a time.
 pub const MOST_LISTED: usize = 256;
 
-// Whether the list was taken at all, which is 0 or 16: what each step was answered stands in the table.
-#[derive(Clone, Copy)]
-pub enum Whole {
-    NoRoom,
-    Taken,
+// Too many steps, or not a place for the answer of each: none is taken.
+#[derive(Clone, Copy, PartialEq, Eq)]
+pub struct NoRoom;
+
+// The number that comes back with such a list.
+impl From<NoRoom> for u8 {
+    ghost from_gives = { λ why n. n ≡ whole_number (Err why) };
+
+    fn from(_: NoRoom) -> u8 {
+        16
+    }
 }
 
-#[derive(Clone, Copy)]
-pub struct Listed {
-    pub whole: Whole,
-    pub run: Run,
-}
+// Whether the list was taken at all: what each step was answered stands in the table.
+pub type Whole = Result<(), NoRoom>;
 
 // So many steps are a list, and each has a place.
-#[tactic(auto, using(crate::proofs::ListLaws::fits_many, crate::proofs::ListLaws::fits_by))]
+#[tactic(auto, unfolding(crate::specs::Whole::fits))]
 pub fn fits(count: usize, places: usize) -> bool
     ensures { result ≡ fits count places }
 {
-    if count <= MOST_LISTED {
-        return count <= places;
-    }
-    false
+    count <= MOST_LISTED && count <= places
 }
 
-// S20.9, S21.1: the list is the first `count` of the steps.
-pub fn take_list(run: Run, steps: [Step; MOST_LISTED], count: usize, answers: &mut [u8]) -> Listed
-    ensures { (result, answers.new) ≡ list_of run steps count answers.old }
+// S20.9: the run is looked at once, before the first step: none of them damages it.
+pub fn take_list(run: &mut Run, steps: &[Step], answers: &mut [u8]) -> Whole
+    ensures { (record { whole = result; run = run.new }, answers.new) ≡ list_of run.old steps.now answers.old }
 {
-    if fits(count, answers.len()) {
-        if undamaged(run) {
-            return each::take_each(run, steps, count, answers);
-        }
-        fill(answers, count, 1);
-        return Listed {
-            whole: Whole::Taken,
-            run: run,
-        };
+    if !fits(steps.len(), answers.len()) {
+        return Err(NoRoom);
     }
-    Listed {
-        whole: Whole::NoRoom,
-        run: run,
+    if !run.undamaged() {
+        answers[..steps.len()].fill(u8::from(Refusal::Damaged));
+        return Ok(());
     }
+    for (i, s) in steps.iter().enumerate() {
+        answers[i] = answer_number(run.go(*s));
+    }
+    Ok(())
 }

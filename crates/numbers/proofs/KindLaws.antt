@@ -8,7 +8,7 @@ use lib.Dec.{eqb, leb, ltb}
 use lib.ListN.{length}
 use borrow.Author.Tests.{ltb-true, ltb-false, lt-ltb, le-ltb, lt-leb, le-leb}
 use Rattle.limits.specs.Limits.{most_slots, to_factory}
-use Rattle.numbers.specs.Names.{Change, Decision, Deed, Outcome, Refusal, Step, Told}
+use Rattle.numbers.specs.Names.{Change, Decision, Deed, None, Option, Outcome, Refusal, Some, Step, Told}
 use Rattle.numbers.specs.Names.{Body, Client, Heard, Held, Message, Plan, Power, Run, Sight, Slot, Stamp, Work}
 use Rattle.plan.proofs.RuleLaws.{both}
 use Rattle.cabinet.specs.Entries.{is_factory_stamp}
@@ -104,7 +104,7 @@ both_num : (t : Bool) (x y : Decision) → num x ≡ 0 → num y ≡ 0 → num (
 both_num true x y a b = a
 both_num false x y a b = b
 
-hears_num : (d : Told) (plan : Plan) (i j : ℕ) (c : Client) (h : Heard) → num (hear_by d plan i j c h) ≡ 0
+hears_num : (d : Option Told) (plan : Plan) (i j : ℕ) (c : Client) (h : Heard) → num (hear_by d plan i j c h) ≡ 0
 unfolding first_write first_read second
 hears_num None plan i j c h = refl
 hears_num (Some (Told.OfWrite r e)) plan i j c h = both_num (leb plan.read (count_of h)) _ _ refl refl

@@ -5,7 +5,7 @@ use mathlib.Core.Bool.{Bool, true, false, cond, ◌&&◌, ◌||◌}
 use mathlib.Core.List.{List, [], ◌∷◌}
 use mathlib.Core.Path.{◌≡◌, refl, ap₂, ◌∙◌}
 use lib.Dec.{eqb, leb, ltb}
-use lib.ListN.{length, take}
+use lib.ListN.{length}
 use borrow.Author.Tests.{leb-true, leb-false, lt-ltb, le-ltb}
 use Rattle.limits.specs.Limits.{most_slots}
 use Rattle.numbers.specs.Names.{Cabinet, Run, Step}
@@ -36,21 +36,21 @@ room_number count places = go _ _ refl refl
     go true false e f = rw (within count most_listed e, over count places f)
     go false u e f = rw (over count most_listed e)
 
-module _ (run : Run) (steps : List Step) (count : ℕ) (answers : List ℕ) where
-  pub list_number : whole_number (list_of run steps count answers).0.whole ≡ list_table_number count (length answers)
+module _ (run : Run) (steps : List Step) (answers : List ℕ) where
+  pub list_number : whole_number (list_of run steps answers).0.whole ≡ list_table_number (length steps) (length answers)
   unfolding list_of taken_of untaken_of
-  list_number = by (fits count (length answers)) ∙ room_number count (length answers)
+  list_number = by (fits (length steps) (length answers)) ∙ room_number (length steps) (length answers)
     where
-      by : (t : Bool) → whole_number (cond t (taken_of run (take count steps) answers) (untaken_of run answers)).0.whole ≡ cond t 0 16
+      by : (t : Bool) → whole_number (cond t (taken_of run steps answers) (untaken_of run answers)).0.whole ≡ cond t 0 16
       by true = refl
       by false = refl
 
   pub lent_list_number : (records : List Cabinet)
-      → whole_number (lent_list_of run records steps count answers).0.whole ≡ list_table_number count (length answers)
+      → whole_number (lent_list_of run records steps answers).0.whole ≡ list_table_number (length steps) (length answers)
   unfolding lent_list_of lent_taken_of lent_untaken_of
-  lent_list_number records = by (fits count (length answers)) ∙ room_number count (length answers)
+  lent_list_number records = by (fits (length steps) (length answers)) ∙ room_number (length steps) (length answers)
     where
-      by : (t : Bool) → whole_number (cond t (lent_taken_of run records (take count steps) answers) (lent_untaken_of run records answers)).0.whole ≡ cond t 0 16
+      by : (t : Bool) → whole_number (cond t (lent_taken_of run records steps answers) (lent_untaken_of run records answers)).0.whole ≡ cond t 0 16
       by true = refl
       by false = refl
 

@@ -8,7 +8,7 @@ use native.Mathlib.Omega.{arith}
 use lib.Dec.{eqb, leb}
 use lib.ListN.{length}
 use Rattle.limits.specs.Limits.{most_slots, most_steps}
-use Rattle.numbers.specs.Names.{Answer, Asked, Cabinet, Decision, Lent, Refusal, Run, Served, Step}
+use Rattle.numbers.specs.Names.{Answer, Cabinet, Decision, Err, Lent, Ok, Refusal, Run, Served, Step}
 use Rattle.types.specs.Answers.{refusal_number, answer_number}
 use Rattle.admit.specs.Admit.{in_range, placed, admit_of}
 use Rattle.run.specs.Steps.{decide_of, put_back, go_of, step_of}
@@ -105,6 +105,6 @@ module _ (run : Run) (table : List Cabinet) (s : Step) where
   lent_unchanged ne = go (lent_of run table s).answer refl
     where
       go : (a : Lent) → (lent_of run table s).answer ≡ a → ((lent_of run table s).run ≡ run) × (table_of run table s ≡ table)
-      go Lent.WrongLength e = refused_length run table s e
-      go (Lent.Answered (Err why)) e = refused run table s why e
-      go (Lent.Answered (Ok o)) e = absurd (ne (ap lent_number e))
+      go (Err w) e = refused_length run table s e
+      go (Ok (Err why)) e = refused run table s why e
+      go (Ok (Ok o)) e = absurd (ne (ap lent_number e))

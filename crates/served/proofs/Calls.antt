@@ -4,7 +4,7 @@ use Prim.Native.Nat.{ℕ}
 use mathlib.Core.Bool.{Bool, true, false, cond}
 use mathlib.Core.List.{List, [], ◌∷◌, ◌++◌}
 use mathlib.Core.Path.{◌≡◌, refl, sym, ap, ap₂, subst, ◌∙◌}
-use lib.ListN.{length, take}
+use lib.ListN.{length}
 use Rattle.served.specs.Names.{Cabinet, Run, Step}
 use Rattle.run.specs.Lists.{run_all}
 use Rattle.run.specs.Start.{start_of}
@@ -24,10 +24,10 @@ use Rattle.served.proofs.Served.{lent_promise}
 -- a call leaves the run that the steps which it takes leave
 call_run : (run : Run) (c : Call) → run_by run c ≡ run_all run (taken_by c)
 unfolding taken_by list_of taken_of untaken_of run_all
-call_run run c = go (fits c.count (length c.answers))
+call_run run c = go (fits (length c.steps) (length c.answers))
   where
-    go : (t : Bool) → (cond t (taken_of run (take c.count c.steps) c.answers) (untaken_of run c.answers)).0.run
-        ≡ run_all run (cond t (take c.count c.steps) [])
+    go : (t : Bool) → (cond t (taken_of run c.steps c.answers) (untaken_of run c.answers)).0.run
+        ≡ run_all run (cond t c.steps [])
     go true = refl
     go false = refl
 
@@ -52,13 +52,13 @@ call_promise n k r b cs =
 lent_call : (run : Run) (records : List Cabinet) (c : Call)
     → (lent_run_by run records c ≡ lent_run run records (taken_by c)) × (lent_table_by run records c ≡ lent_table run records (taken_by c))
 unfolding taken_by lent_list_of lent_taken_of lent_untaken_of
-lent_call run records c = go (fits c.count (length c.answers))
+lent_call run records c = go (fits (length c.steps) (length c.answers))
   where
     go : (t : Bool)
-        → ((cond t (lent_taken_of run records (take c.count c.steps) c.answers) (lent_untaken_of run records c.answers)).0.run
-        ≡ lent_run run records (cond t (take c.count c.steps) []))
-        × ((cond t (lent_taken_of run records (take c.count c.steps) c.answers) (lent_untaken_of run records c.answers)).1
-        ≡ lent_table run records (cond t (take c.count c.steps) []))
+        → ((cond t (lent_taken_of run records c.steps c.answers) (lent_untaken_of run records c.answers)).0.run
+        ≡ lent_run run records (cond t c.steps []))
+        × ((cond t (lent_taken_of run records c.steps c.answers) (lent_untaken_of run records c.answers)).1
+        ≡ lent_table run records (cond t c.steps []))
     go true = (refl, refl)
     go false = (refl, refl)
 

@@ -3,7 +3,7 @@
 use mathlib.Core.Path.{◌≡◌, refl, ap₂, ◌∙◌}
 use mathlib.Core.List.{List}
 use lib.ListN.{length}
-use Rattle.served.specs.Names.{Answer, Cabinet, Lent, Outcome, Run, Step}
+use Rattle.served.specs.Names.{Answer, Cabinet, Err, Lent, Ok, Outcome, Run, Step}
 use Rattle.run.specs.Steps.{client_at, slot_at, step_of}
 use Rattle.desk.specs.Desk.{with_cabinets, with_records}
 use Rattle.desk.proofs.DeskLaws.{as_step}

@@ -5,7 +5,7 @@ use mathlib.Core.List.{List, [], ◌∷◌, ◌++◌, map}
 use native.Mathlib.Omega.{arith}
 use lib.ListN.{length, replicate, length-replicate, replicate-append-replicate}
 use Rattle.limits.specs.Limits.{most_cabinets}
-use Rattle.served.specs.Names.{Cabinet, Lent, Planned, Run, Step}
+use Rattle.served.specs.Names.{Cabinet, Err, Lent, Ok, Planned, Run, Step, Unplanned}
 use Rattle.cabinet.specs.Cabinets.{fresh_cabinet}
 use Rattle.plan.specs.Rule.{plan_of}
 use Rattle.run.specs.Lists.{run_all}
@@ -25,12 +25,12 @@ use Rattle.served.proofs.EventLaws.{event_same}
 
 -- the answers
 pub as_own : (run : Run) (table : List Cabinet) (ss : List Step) → length table ≡ run.plan.n
-    → lent_answers run table ss ≡ map Lent.Answered (answers_all (with_records run table) ss)
+    → lent_answers run table ss ≡ map Ok (answers_all (with_records run table) ss)
 as_own run table [] same = refl
 as_own run table (s ∷ ss) same =
     ap₂ {C = List Lent} (λ a l. a ∷ l) (as_step run table s same).0
     (as_own (lent_of run table s).run (table_of run table s) ss (same_step run table s same)
-    ∙ ap (λ (r : Run). map Lent.Answered (answers_all r ss)) (behind_step run table s same))
+    ∙ ap (λ (r : Run). map Ok (answers_all r ss)) (behind_step run table s same))
 
 -- the run behind the table after the list, and that the table still has n records
 pub behind_own : (run : Run) (table : List Cabinet) (ss : List Step) → length table ≡ run.plan.n

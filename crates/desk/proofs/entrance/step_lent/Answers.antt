@@ -1,43 +1,24 @@
--- `step_lent` meets its contract: a table of another length is refused; otherwise the nine records are the table's, and the one that the step
--- met is stored, where it is one of the table's. Assumes nothing.
-use mathlib.Core.Logic.{◌≢◌}
-use mathlib.Core.List.{[]}
-use mathlib.Core.Path.{◌≡◌, sym, ap, ◌∙◌}
-use native.Mathlib.Omega.{arith}
-use lib.ListN.{length, set, drop, drop_of_length-le}
-use lib.Seq.{set_out}
-use Rattle.desk.specs.Names.{Made, Nine}
-use Rattle.desk.specs.declared.Met.{Met}
-use Rattle.desk.specs.View.{made_of, served_of}
-use Rattle.desk.proofs.ViewLaws.{laid, laid_all, nine_of, made_in, made_lent, made_stored}
+-- `step_lent` meets its contract: a table of another length is refused; otherwise the step is taken by the run that has the lent records. Assumes nothing.
+use Rattle.std.proofs.Common.{◌≡◌, length, ap, sym, arith, ◌∙◌}
+use Rattle.desk.specs.Names.{Ok, Run, Stepped}
+use Rattle.desk.specs.Desk.{with_cabinets, nine_of, answered}
+use Rattle.run.specs.Steps.{step_of}
+use Rattle.desk.proofs.LendLaws.{lent_says, table_says}
 use Rattle.desk.proofs.DeskLaws.{wrong_length_says}
 use Rattle.desk.proofs.entrance.step_lent.Goals as goal
-use Rattle.desk.proofs.entrance.step_lent.Goals.{then-at-table, else-at-table}
 
-pub returns-then-table-n : goal.returns-then-table-n
-returns-then-table-n c =
-    let table = c.args.table.now in
-    let ne : length table ≢ c.args.run.plan.n = omega (arith, c.count-n.ensures) in
-    let w = wrong_length_says c.args.run table c.args.s ne in
-    (c.refuse.ensures ∙ sym w.0, sym w.1)
-
-pub loop-i-init : goal.loop-i-init
-loop-i-init c = rw c.none_lent-lent.ensures (laid_all c.args.table.now)
+pub returns-then-table-run : goal.returns-then-table-run
+returns-then-table-run c =
+    let w = wrong_length_says c.args.run.now c.args.table.now c.args.s (omega (arith, c.if-table-run.true)) in
+    (sym w.0, sym w.1)
 
 pub returns : goal.returns
+unfolding answered
 returns c =
-    let run = c.args.run in
+    let run = c.args.run.now in
     let table = c.args.table.now in
-    let s = c.args.s in
-    let same : length table ≡ run.plan.n = omega (arith, c.count-n.ensures) in
-    let past : drop c.loop-i.i table ≡ [] = drop_of_length-le table (omega arith) in
-    let lent : c.loop-i.lent ≡ nine_of table = ap (laid c.loop-i.lent c.loop-i.i) (sym past) ∙ c.loop-i.invariant in
-    let made : c.make-m.result ≡ made_in run table s = c.make-m.ensures ∙ ap (λ (x : Nine). made_of run x s) lent in
-    let met : c.met_by-met.result ≡ (made_in run table s).met = c.met_by-met.ensures ∙ ap (λ (m : Made). m.met) made in
-    let at = c.met_by-met.result.at in
-    let stored : c.if-at-table.table ≡ set table at c.met_by-met.result.cabinet =
-    elim c.if-at-table.branch [
-      | then-at-table w ↦ w.table-is
-      | else-at-table w ↦ w.table-is ∙ sym (set_out table at c.met_by-met.result.cabinet (omega arith))
-    ] in
-    (c.serve.ensures ∙ ap served_of made ∙ made_lent run table s same, stored ∙ ap (λ (m : Met). set table m.at m.cabinet) met ∙ made_stored run table s same)
+    let same : length table ≡ run.plan.n = c.if-table-run.false in
+    let z : Stepped = record { answer = c.take-answer.result; run = c.take-answer.new.self } in
+    let took : z ≡ step_of (with_cabinets run (nine_of table)) c.args.s = c.take-answer.ensures ∙ ap (λ (r : Run). step_of r c.args.s) c.lend-own.ensures.lent in
+    let own : c.give_back.new.run ≡ with_cabinets z.run run.cabinets = c.give_back.ensures.own ∙ ap (with_cabinets z.run) c.lend-own.ensures.own in
+    (ap (λ (r : Run). record { answer = Ok z.answer; run = r }) own ∙ lent_says run table c.args.s same z took, c.give_back.ensures.lent ∙ table_says run table c.args.s same z took)

@@ -1,0 +1,41 @@
+-- `list_lent` meets its contract: no room, a table of another length, and the list of the run that has the lent records. Assumes nothing.
+use Rattle.std.proofs.Common.{ℕ, List, true, ◌≡◌, length, replicate, ap, sym, ◌∙◌, length-take-le}
+use Rattle.desk_lists.specs.Names.{Cabinet, Listed, Ok, Run}
+use Rattle.lists.specs.Whole.{fits, in_front, list_of}
+use Rattle.lists.proofs.ListLaws.{fits_says, front_filled}
+use Rattle.desk.specs.Desk.{with_cabinets, nine_of}
+use Rattle.desk_lists.specs.Lent.{lent_untaken_of}
+use borrow.Author.Tests.{ne_eqb}
+use Rattle.desk_lists.proofs.LentLaws.{lent_untaken, list_wrong, list_right}
+use Rattle.desk_lists.proofs.list_lent.Goals as goal
+
+pub returns-then-not-fits : goal.returns-then-not-fits
+unfolding lent_untaken_of
+returns-then-not-fits c =
+    let a = c.args in
+    lent_untaken a.run.now a.table.now a.steps.now a.answers.now (sym c.fits.ensures ∙ c.if-not-fits.true)
+
+pub slice_bounds-fill-end : goal.slice_bounds-fill-end
+slice_bounds-fill-end c = (fits_says _ _ (sym c.fits.ensures ∙ c.if-not-fits.false)).1
+
+pub slice_bounds-fill-end-then-table-run : goal.slice_bounds-fill-end-then-table-run
+slice_bounds-fill-end-then-table-run c = sym (length-take-le _ c.args.answers.now (fits_says _ _ (sym c.fits.ensures ∙ c.if-not-fits.false)).1)
+
+pub returns-then-table-run : goal.returns-then-table-run
+returns-then-table-run c =
+    let a = c.args in
+    let room : fits (length a.steps.now) (length a.answers.now) ≡ true = sym c.fits.ensures ∙ c.if-not-fits.false in
+    let filled = front_filled (length a.steps.now) c.from.result a.answers.now c.fill.new.self (fits_says _ _ room).1 (c.fill.ensures.after (λ y e. e)) in
+    ap (λ (l : List ℕ). (record { whole = Ok tt; run = a.run.now }, a.table.now, l)) (filled ∙ ap (λ (n : ℕ). in_front (replicate (length a.steps.now) n) a.answers.now) c.from.ensures)
+    ∙ list_wrong a.run.now a.table.now a.steps.now a.answers.now room (ne_eqb _ _ c.if-table-run.true)
+
+pub returns : goal.returns
+returns c =
+    let a = c.args in
+    let z : Listed × List ℕ = (record { whole = c.take_list-whole.result; run = c.take_list-whole.new.run }, c.take_list-whole.new.answers) in
+    let took : z ≡ list_of (with_cabinets a.run.now (nine_of a.table.now)) a.steps.now a.answers.now =
+    c.take_list-whole.ensures ∙ ap (λ (r : Run). list_of r a.steps.now a.answers.now) c.lend-own.ensures.lent in
+    let own : c.give_back.new.run ≡ with_cabinets z.0.run a.run.now.cabinets = c.give_back.ensures.own ∙ ap (with_cabinets z.0.run) c.lend-own.ensures.own in
+    ap (λ (r : Run). (record { whole = z.0.whole; run = r }, c.give_back.new.table, z.1)) own
+    ∙ ap (λ (l : List Cabinet). (record { whole = z.0.whole; run = with_cabinets z.0.run a.run.now.cabinets }, l, z.1)) c.give_back.ensures.lent
+    ∙ list_right a.run.now a.table.now a.steps.now a.answers.now z (sym c.fits.ensures ∙ c.if-not-fits.false) c.if-table-run.false took
