@@ -21,6 +21,7 @@ pub enum Phase {
 
 // What is kept from part to part: a row's bytes so far and how many they are (MOST_LINE + 1: too many), the phase, the next row's number, and the
 // run, which is changed in place, being five kilobytes. Where steps are due it is undamaged, so that no step is checked again.
+#[derive(Drop)]
 pub struct Rehearsal {
     line: [u8; MOST_LINE],
     len: usize,
