@@ -19,12 +19,9 @@ pub fn read_full<R: Read>(input: &mut R, bytes: &mut [u8]) -> usize
 {
     let mut done: usize = 0;
     while done < bytes.len() {
-        let n = match input.read(&mut bytes[done..]) {
-            Ok(n) => n,
-            Err(_) => 0,
-        };
+        let n = input.read(&mut bytes[done..]).unwrap_or(0);
         if n == 0 {
-            return done;
+            break;
         }
         done += n;
     }

@@ -1,99 +1,55 @@
 // The two entrances side by side: each step is taken by a run on its own records and by one over a lent table, and all that comes of it is compared.
 use cabinet::Cabinet;
-use cases::sums;
-use desk::Lent;
+use desk::step_lent;
 use limits::MOST_CABINETS;
 use run::Run;
 use types::Step;
 
-// The first run steps on its own records, the second over the table. The sum is that of the second's own records, which no step may change.
+// The first run steps on its own records, the second over the table. No step may change the second's own records.
 #[derive(Clone, Copy)]
 pub struct Both {
     pub first: Run,
     pub second: Run,
     pub table: [Cabinet; MOST_CABINETS],
-    pub own: u64,
+    pub own: [Cabinet; MOST_CABINETS],
 }
 
 #[derive(Clone, Copy)]
 pub struct Compared {
-    pub number: u64,
+    pub accepted: bool,
     pub same: bool,
-    pub both: Both,
 }
 
-// The second run's own first record is damaged, so that an entrance which read it would answer 1.
-pub fn begin(run: Run) -> Both {
-    let table = run.cabinets;
-    let mut k = table[0];
-    k.kept = 0;
-    let mut second = run;
-    second.cabinets[0] = k;
-    let own = second.cabinets;
-    Both {
-        first: run,
-        second: second,
-        table: table,
-        own: sums::cabinets(own),
-    }
-}
-
-pub fn lent_number(l: Lent) -> u64 {
-    match l {
-        Lent::WrongLength => 14,
-        Lent::Answered(a) => sums::answer_number(a),
-    }
-}
-
-fn lent_sum(l: Lent) -> u64 {
-    match l {
-        Lent::WrongLength => 14,
-        Lent::Answered(a) => sums::answer(a),
-    }
-}
-
-// The plan, the clients, the slots and the steps of the two; the lent records beside the first run's own; the second run's own as they were.
-fn agree(b: Both) -> bool {
-    let first = b.first;
-    let second = b.second;
-    let held = first.cabinets;
-    let table = b.table;
-    let own = second.cabinets;
-    if sums::rest(first) == sums::rest(second) {
-        if sums::cabinets(held) == sums::cabinets(table) {
-            return sums::cabinets(own) == b.own;
+impl Both {
+    // The second run's own first record is damaged, so that an entrance which read it would answer 1.
+    pub fn of(run: &Run) -> Both {
+        let mut second = *run;
+        second.cabinets[0].kept = 0;
+        Both {
+            first: *run,
+            second,
+            table: run.cabinets,
+            own: second.cabinets,
         }
-        return false;
     }
-    false
-}
 
-pub fn step(b: Both, s: Step) -> Compared {
-    let first = b.first;
-    let second = b.second;
-    let table = b.table;
-    let plan = first.plan;
-    let x = run::take(first, s);
-    let y = desk::step_local(second, table, plan.n as usize, s);
-    let z = y.served;
-    let answer = x.answer;
-    let lent = z.answer;
-    let moved = x.run;
-    let served = z.run;
-    let records = y.table;
-    let next = Both {
-        first: moved,
-        second: served,
-        table: records,
-        own: b.own,
-    };
-    let mut same = false;
-    if sums::answer(answer) == lent_sum(lent) {
-        same = agree(next);
+    // The plan, the clients, the slots and the steps of the two; the second run's own as they were; the lent records beside the first run's own.
+    fn agree(&self) -> bool {
+        let as_first = Run {
+            cabinets: self.own,
+            ..self.first
+        };
+        self.second == as_first && self.table == self.first.cabinets
     }
-    Compared {
-        number: sums::answer_number(answer),
-        same: same,
-        both: next,
+
+    pub fn step(&mut self, s: Step) -> Compared {
+        let n = MOST_CABINETS.min(self.first.plan.n as usize);
+        let answer = self.first.take(s);
+        let table = &mut self.table[..];
+        let lent = step_lent(&mut self.second, &mut table[..n], s);
+        Compared {
+            accepted: answer.is_ok(),
+            same: lent == Ok(answer) && self.agree(),
+        }
     }
 }
