@@ -1,85 +1,47 @@
 // Steps taken singly, in one go by a run, and in one go over a lent table; the places lent stand in front of a marked buffer.
 ghost use Rattle.std.specs.Prelude.{◌≤◌};
-ghost use Rattle.lists.specs.Whole.{most_listed};
+ghost use Rattle.limits.specs.Limits.{most_cabinets};
 ghost use Rattle.list_cases.specs.Sizes.{most_places};
 
-use super::told::{Desk, MARK, PLACES, Told, tell};
-use cabinet::Cabinet;
-use cases::sums;
-use limits::MOST_CABINETS;
-use lists::{Listed, MOST_LISTED, Whole};
-use types::Step;
+use super::told::{Desk, Told};
+use desk_lists::list_lent;
+use lists::{Whole, take_list};
+use types::{Step, answer_number};
 
-#[derive(Clone, Copy)]
-pub struct Taken {
-    pub told: Told,
-    pub desk: Desk,
-}
-
-fn whole_number(w: Whole) -> u64 {
-    match w {
-        Whole::NoRoom => 16,
-        Whole::Taken => 0,
+fn whole_number(whole: Whole) -> u8 {
+    match whole {
+        Ok(()) => 0,
+        Err(why) => u8::from(why),
     }
 }
 
-fn done(number: u64, answers: [u8; PLACES], d: Desk) -> Taken {
-    Taken {
-        told: tell(number, answers, d),
-        desk: d,
+pub fn singly(desk: &Desk, steps: &[Step]) -> Told {
+    let mut told = Told::kept(0, desk);
+    for (s, answer) in steps.iter().zip(told.answers.iter_mut()) {
+        *answer = answer_number(told.desk.run.take(*s));
     }
+    told
 }
 
-fn listed(z: Listed, answers: [u8; PLACES], table: [Cabinet; MOST_CABINETS]) -> Taken {
-    let whole = z.whole;
-    let after = z.run;
-    let d = Desk {
-        run: after,
-        table: table,
-    };
-    done(whole_number(whole), answers, d)
-}
-
-pub fn singly(d: Desk, steps: [Step; MOST_LISTED], count: usize) -> Taken
-    requires { count ≤ most_listed }
-{
-    let mut held = d.run;
-    let mut answers = [MARK; PLACES];
-    let mut i: usize = 0;
-    while i < count {
-        let s = steps[i];
-        let x = run::take(held, s);
-        let answer = x.answer;
-        answers[i] = sums::answer_number(answer) as u8;
-        held = x.run;
-        i += 1;
-    }
-    let table = d.table;
-    let e = Desk {
-        run: held,
-        table: table,
-    };
-    done(0, answers, e)
-}
-
-pub fn by_run(d: Desk, steps: [Step; MOST_LISTED], count: usize, places: usize) -> Taken
+pub fn by_run(desk: &Desk, steps: &[Step], places: usize) -> Told
     requires { places ≤ most_places }
 {
-    let held = d.run;
-    let table = d.table;
-    let mut answers = [MARK; PLACES];
-    let z = lists::take_list(held, steps, count, &mut answers[..places]);
-    listed(z, answers, table)
+    let mut told = Told::kept(0, desk);
+    let whole = take_list(&mut told.desk.run, steps, &mut told.answers[..places]);
+    told.number = whole_number(whole);
+    told
 }
 
-pub fn lent(d: Desk, len: usize, steps: [Step; MOST_LISTED], count: usize, places: usize) -> Taken
-    requires { places ≤ most_places }
+pub fn lent(desk: &Desk, len: usize, steps: &[Step], places: usize) -> Told
+    requires { (len ≤ most_cabinets) × (places ≤ most_places) }
 {
-    let held = d.run;
-    let table = d.table;
-    let mut answers = [MARK; PLACES];
-    let y = desk_lists::list_local(held, table, len, steps, count, &mut answers[..places]);
-    let z = y.listed;
-    let left = y.table;
-    listed(z, answers, left)
+    let mut told = Told::kept(0, desk);
+    let whole = list_lent(
+        &mut told.desk.run,
+        &mut told.desk.table[..len],
+        steps,
+        &mut told.answers[..places],
+    );
+    told.number = whole_number(whole);
+    told
 }

@@ -1,10 +1,10 @@
 // The edges of both calls: how many steps, how many places, damage, and tables of a wrong length.
 ghost use Rattle.std.specs.Prelude.{◌≤◌};
-ghost use Rattle.lists.specs.Whole.{most_listed};
-ghost use Rattle.list_cases.specs.Sizes.{most_places};
+ghost use Rattle.limits.specs.Limits.{most_cabinets};
+ghost use Rattle.list_cases.specs.Sizes.{most_places, most_rows};
 
 use super::full::{begun, full_list, refused};
-use super::told::{Desk, PLACES, Told, each, kept, over_table, own_sum, same};
+use super::told::{Desk, PLACES, Told};
 use super::{calls, damage, show};
 use limits::MOST_CABINETS;
 use lists::MOST_LISTED;
@@ -13,185 +13,116 @@ use std::io;
 // As many as the run has.
 const RECORDS: usize = 4;
 
-fn by_run(
-    rt: &impl Print,
-    name: &str,
-    d: Desk,
-    count: usize,
-    places: usize,
-    want: Told,
-    checked: &str,
-) -> io::Result<()>
-    requires { places ≤ most_places }
-{
-    let z = calls::by_run(d, full_list(), count, places);
-    let t = z.told;
-    show::asked(rt, name, count, places)?;
-    show::came(rt, t.number, same(t, want), checked)
-}
+const EACH_1: &str = "each answered 1, nothing else changed";
 
-fn lent(
-    rt: &impl Print,
-    name: &str,
-    d: Desk,
+const EACH_14: &str = "each answered 14, nothing else changed";
+
+const NOTHING: &str = "nothing changed, all marks kept";
+
+const AS_SINGLY: &str = "as singly, marks behind kept";
+
+// The first steps of the full list, some places for their answers, and the first records of the desk, under a name.
+#[derive(Clone, Copy)]
+struct Edge<'a> {
+    name: &'a str,
+    desk: &'a Desk,
     len: usize,
     count: usize,
     places: usize,
-    want: Told,
-    checked: &str,
-) -> io::Result<()>
-    requires { places ≤ most_places }
-{
-    let z = calls::lent(d, len, full_list(), count, places);
-    let t = z.told;
-    show::asked(rt, name, count, places)?;
-    show::records(rt, len)?;
-    show::came(rt, t.number, same(t, want), checked)
+    ghost within: { (len ≤ most_cabinets) × (count ≤ most_rows) × (places ≤ most_places) },
 }
 
-fn untaken(
-    rt: &impl Print,
-    name: &str,
-    d: Desk,
-    len: usize,
-    count: usize,
-    places: usize,
-    number: u64,
-) -> io::Result<()>
-    requires { places ≤ most_places }
-{
-    let want = kept(number, d);
-    let checked = "nothing changed, all marks kept";
-    by_run(rt, name, d, count, places, want, checked)?;
-    lent(rt, name, d, len, count, places, want, checked)
+impl Edge<'_> {
+    fn by_run(&self, rt: &impl Print, want: &Told, checked: &str) -> io::Result<()> {
+        let told = calls::by_run(self.desk, &full_list()[..self.count], self.places);
+        show::asked(rt, self.name, self.count, self.places)?;
+        show::came(rt, told.number, told == *want, checked)
+    }
+
+    fn lent(&self, rt: &impl Print, want: &Told, checked: &str) -> io::Result<()> {
+        let told = calls::lent(self.desk, self.len, &full_list()[..self.count], self.places);
+        show::asked(rt, self.name, self.count, self.places)?;
+        show::records(rt, self.len)?;
+        show::came(rt, told.number, told == *want, checked)
+    }
+
+    fn untaken(&self, rt: &impl Print, number: u8) -> io::Result<()> {
+        let want = Told::kept(number, self.desk);
+        self.by_run(rt, &want, NOTHING)?;
+        self.lent(rt, &want, NOTHING)
+    }
+
+    fn singly(&self) -> Told {
+        calls::singly(self.desk, &full_list()[..self.count])
+    }
+
+    fn as_singly(&self, rt: &impl Print) -> io::Result<()> {
+        let want = self.singly();
+        self.by_run(rt, &want, AS_SINGLY)?;
+        self.lent(rt, &want.over_table(&self.desk.run.cabinets), AS_SINGLY)
+    }
 }
 
-fn as_singly(rt: &impl Print, name: &str, d: Desk, count: usize, places: usize) -> io::Result<()>
-    requires { (count ≤ most_listed) × (places ≤ most_places) }
+fn at<'a>(name: &'a str, desk: &'a Desk, len: usize, count: usize, places: usize) -> Edge<'a>
+    requires { (len ≤ most_cabinets) × (count ≤ most_rows) × (places ≤ most_places) }
 {
-    let x = calls::singly(d, full_list(), count);
-    let want = x.told;
-    let checked = "as singly, marks behind kept";
-    by_run(rt, name, d, count, places, want, checked)?;
-    lent(
-        rt,
+    Edge {
         name,
-        d,
-        RECORDS,
+        desk,
+        len,
         count,
         places,
-        over_table(want, own_sum(d)),
-        checked,
-    )
+    }
 }
 
-fn counts(rt: &impl Print, d: Desk) -> io::Result<()> {
-    untaken(rt, "no steps", d, RECORDS, 0, PLACES, 0)?;
-    as_singly(rt, "a full list", d, MOST_LISTED, PLACES)?;
-    untaken(
-        rt,
-        "a step too many",
-        d,
-        RECORDS,
-        MOST_LISTED + 1,
-        PLACES,
-        16,
-    )
+fn counts(rt: &impl Print, d: &Desk) -> io::Result<()> {
+    at("no steps", d, RECORDS, 0, PLACES).untaken(rt, 0)?;
+    at("a full list", d, RECORDS, MOST_LISTED, PLACES).as_singly(rt)?;
+    at("a step too many", d, RECORDS, MOST_LISTED + 1, PLACES).untaken(rt, 16)
 }
 
 // Seven of the steps: those behind the list are not taken.
-fn places(rt: &impl Print, d: Desk) -> io::Result<()> {
-    untaken(rt, "a place too few", d, RECORDS, 7, 6, 16)?;
-    as_singly(rt, "just enough places", d, 7, 7)?;
-    as_singly(rt, "places behind", d, 7, PLACES)?;
-    untaken(
-        rt,
-        "a full list, a place too few",
-        d,
-        RECORDS,
-        MOST_LISTED,
-        MOST_LISTED - 1,
-        16,
-    )?;
-    as_singly(
-        rt,
-        "a full list, just enough places",
-        d,
-        MOST_LISTED,
-        MOST_LISTED,
-    )
+fn places(rt: &impl Print, d: &Desk) -> io::Result<()> {
+    let full = MOST_LISTED;
+    at("a place too few", d, RECORDS, 7, 6).untaken(rt, 16)?;
+    at("just enough places", d, RECORDS, 7, 7).as_singly(rt)?;
+    at("places behind", d, RECORDS, 7, PLACES).as_singly(rt)?;
+    at("a full list, a place too few", d, RECORDS, full, full - 1).untaken(rt, 16)?;
+    at("a full list, just enough places", d, RECORDS, full, full).as_singly(rt)
 }
 
-fn damaged(rt: &impl Print, d: Desk) -> io::Result<()> {
-    let want = each(1, MOST_LISTED, d);
-    let checked = "each answered 1, nothing else changed";
-    by_run(rt, "a damaged run", d, MOST_LISTED, PLACES, want, checked)?;
-    lent(
-        rt,
-        "a damaged run",
-        d,
-        RECORDS,
-        MOST_LISTED,
-        PLACES,
-        want,
-        checked,
-    )?;
-    untaken(rt, "a damaged run, no steps", d, 0, 0, 0, 0)
+fn damaged(rt: &impl Print, d: &Desk) -> io::Result<()> {
+    let want = Told::each(1, MOST_LISTED, d);
+    let full = at("a damaged run", d, RECORDS, MOST_LISTED, PLACES);
+    full.by_run(rt, &want, EACH_1)?;
+    full.lent(rt, &want, EACH_1)?;
+    at("a damaged run, no steps", d, 0, 0, 0).untaken(rt, 0)
 }
 
-fn damaged_record(rt: &impl Print, d: Desk) -> io::Result<()> {
-    let checked = "each answered 1, nothing else changed";
-    lent(
-        rt,
-        "a damaged record",
-        d,
-        RECORDS,
-        MOST_LISTED,
-        PLACES,
-        each(1, MOST_LISTED, d),
-        checked,
-    )
+fn damaged_record(rt: &impl Print, d: &Desk) -> io::Result<()> {
+    let want = Told::each(1, MOST_LISTED, d);
+    at("a damaged record", d, RECORDS, MOST_LISTED, PLACES).lent(rt, &want, EACH_1)
 }
 
-fn wrong_length(rt: &impl Print, d: Desk, len: usize) -> io::Result<()> {
-    let checked = "each answered 14, nothing else changed";
-    lent(
-        rt,
-        "a wrong length",
-        d,
-        len,
-        MOST_LISTED,
-        PLACES,
-        each(14, MOST_LISTED, d),
-        checked,
-    )?;
-    lent(
-        rt,
-        "a wrong length, a place too few",
-        d,
-        len,
-        7,
-        6,
-        kept(16, d),
-        "nothing changed, all marks kept",
-    )
-}
-
-fn lengths(rt: &impl Print, d: Desk) -> io::Result<()> {
-    wrong_length(rt, d, 3)?;
-    wrong_length(rt, d, 5)?;
-    wrong_length(rt, d, 0)?;
-    wrong_length(rt, d, MOST_CABINETS)
+fn wrong_length(rt: &impl Print, d: &Desk, len: usize) -> io::Result<()>
+    requires { len ≤ most_cabinets }
+{
+    let each = Told::each(14, MOST_LISTED, d);
+    let kept = Told::kept(16, d);
+    at("a wrong length", d, len, MOST_LISTED, PLACES).lent(rt, &each, EACH_14)?;
+    at("a wrong length, a place too few", d, len, 7, 6).lent(rt, &kept, NOTHING)
 }
 
 pub fn all(rt: &impl Print) -> io::Result<()> {
     let d = begun();
-    let x = calls::singly(d, full_list(), MOST_LISTED);
-    let t = x.told;
-    show::refused(rt, MOST_LISTED, refused(t, MOST_LISTED))?;
-    counts(rt, d)?;
-    places(rt, d)?;
-    damaged(rt, damage::step_count(d))?;
-    damaged_record(rt, damage::lent_record(d))?;
-    lengths(rt, d)
+    let told = at("a full list", &d, RECORDS, MOST_LISTED, PLACES).singly();
+    show::refused(rt, MOST_LISTED, refused(&told, MOST_LISTED))?;
+    counts(rt, &d)?;
+    places(rt, &d)?;
+    damaged(rt, &damage::step_count(&d))?;
+    damaged_record(rt, &damage::lent_record(&d))?;
+    wrong_length(rt, &d, 3)?;
+    wrong_length(rt, &d, 5)?;
+    wrong_length(rt, &d, 0)?;
+    wrong_length(rt, &d, MOST_CABINETS)
 }

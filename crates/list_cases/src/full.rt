@@ -1,12 +1,12 @@
 // A full list of which some steps are refused, and a run that is on its way when the list comes.
-ghost use Rattle.std.specs.Prelude.{◌≤◌};
-ghost use Rattle.lists.specs.Whole.{most_listed};
-
 use super::calls;
-use super::told::{Desk, Told, desk_of};
+use super::told::{Desk, Told};
 use cabinet::Reading;
 use lists::MOST_LISTED;
 use types::Step;
+
+// A step more than a list may have.
+pub const ROWS: usize = MOST_LISTED + 1;
 
 const ROUND: usize = 16;
 
@@ -26,39 +26,23 @@ fn round() -> [Step; ROUND] {
     l
 }
 
-pub fn full_list() -> [Step; MOST_LISTED] {
-    let l = round();
-    let mut steps = [Step::Other; MOST_LISTED];
-    let mut i: usize = 0;
-    while i < MOST_LISTED {
-        steps[i] = l[i % ROUND];
-        i += 1;
+pub fn full_list() -> [Step; ROWS] {
+    let round = round();
+    let mut steps = [Step::Other; ROWS];
+    for (i, s) in steps.iter_mut().enumerate() {
+        *s = round[i % ROUND];
     }
     steps
 }
 
 // The run has four cabinets, the fourth down, and its first client is in the second part of a write.
 pub fn begun() -> Desk {
-    let z = run::start(4, 1, 1, 2);
-    let fresh = z.run;
-    let x = calls::singly(desk_of(fresh), full_list(), 11);
-    let d = x.desk;
-    let held = d.run;
-    desk_of(held)
+    let run = run::start(4, 1, 1, 2).run;
+    let begun = calls::singly(&Desk::of(&run), &full_list()[..11]);
+    Desk::of(&begun.desk.run)
 }
 
 // How many of the first answers are refusals.
-pub fn refused(t: Told, count: usize) -> u64
-    requires { count ≤ most_listed }
-{
-    let answers = t.answers;
-    let mut n: u64 = 0;
-    let mut i: usize = 0;
-    while i < count {
-        if 0 < answers[i] {
-            n += 1;
-        }
-        i += 1;
-    }
-    n
+pub fn refused(told: &Told, count: usize) -> usize {
+    told.answers.iter().take(count).filter(|n| **n > 0).count()
 }

@@ -8,12 +8,10 @@ pub fn no_plan(rt: &impl Print, name: &str) -> io::Result<()> {
 
 pub fn list(rt: &impl Print, name: &str, most: usize, t: Tally) -> io::Result<()> {
     let steps = t.steps;
-    let piece = t.differs;
     print!(rt; "{name}: {steps} steps in pieces of {most}")?;
-    if piece == 0 {
-        println!(rt; ", agree")
-    } else {
-        println!(rt; ", PIECE {piece} DIFFERS")
+    match t.differs {
+        None => println!(rt; ", agree"),
+        Some(piece) => println!(rt; ", PIECE {piece} DIFFERS"),
     }
 }
 
@@ -26,7 +24,7 @@ pub fn records(rt: &impl Print, len: usize) -> io::Result<()> {
 }
 
 // What was checked is said only where it holds.
-pub fn came(rt: &impl Print, n: u64, holds: bool, checked: &str) -> io::Result<()> {
+pub fn came(rt: &impl Print, n: u8, holds: bool, checked: &str) -> io::Result<()> {
     print!(rt; "): {n}, ")?;
     if holds {
         println!(rt; "{checked}")
@@ -35,6 +33,6 @@ pub fn came(rt: &impl Print, n: u64, holds: bool, checked: &str) -> io::Result<(
     }
 }
 
-pub fn refused(rt: &impl Print, count: usize, n: u64) -> io::Result<()> {
+pub fn refused(rt: &impl Print, count: usize, n: usize) -> io::Result<()> {
     println!(rt; "the edges' list: {count} steps, {n} refused")
 }

@@ -2,44 +2,29 @@
 ghost use Rattle.std.specs.Prelude.{◌≡◌, ◌+◌, ◌≤◌};
 ghost use Rattle.cases.specs.Sizes.{most_list_bytes};
 
-// The first piece that differs is counted from 1; 0: none does.
+// The first piece that differs is counted from 1.
 #[derive(Clone, Copy)]
 pub struct Tally {
     pub steps: usize,
     pub pieces: usize,
-    pub differs: usize,
+    pub differs: Option<usize>,
 }
 
-pub fn nothing() -> Tally
-    ensures { (result.steps ≡ 0) × (result.pieces ≡ 0) }
-{
-    Tally {
+impl Tally {
+    pub const NOTHING: Tally = Tally {
         steps: 0,
         pieces: 0,
-        differs: 0,
-    }
-}
+        differs: None,
+    };
 
-fn first_piece(t: Tally, same: bool) -> usize
-    requires { t.pieces ≤ most_list_bytes }
-{
-    if same {
-        return t.differs;
-    }
-    if 0 < t.differs {
-        return t.differs;
-    }
-    t.pieces + 1
-}
-
-pub fn counted(t: Tally, count: usize, same: bool) -> Tally
-    requires { (t.steps + count ≤ most_list_bytes) × (t.pieces ≤ most_list_bytes) }
-    ensures { (result.steps ≡ t.steps + count) × (result.pieces ≡ t.pieces + 1) }
-{
-    let piece = first_piece(t, same);
-    Tally {
-        steps: t.steps + count,
-        pieces: t.pieces + 1,
-        differs: piece,
+    pub fn count(&mut self, steps: usize, same: bool)
+        requires { (self.old.steps + steps ≤ most_list_bytes) × (self.old.pieces ≤ most_list_bytes) }
+        ensures { (self.new.steps ≡ self.old.steps + steps) × (self.new.pieces ≡ self.old.pieces + 1) }
+    {
+        self.steps += steps;
+        self.pieces += 1;
+        if !same {
+            self.differs = self.differs.or(Some(self.pieces));
+        }
     }
 }

@@ -1,9 +1,9 @@
-use Prim.Native.Nat.{◌+◌, ◌-◌, ◌≤◌}
-use lib.ListN.{length}
+-- `piece_from` ends, and its rows are within the list: each ends behind where it began. Assumes nothing.
+use Rattle.std.proofs.Common.{◌+◌, ◌-◌, ◌≤◌, ◌<◌, length}
 use Rattle.list_cases.proofs.piece.piece_from.Given as goal
 
-abbrev pub invariant-loop-count : goal.invariant-loop-count
-invariant-loop-count l = (l.from + l.count ≤ l.at) × (l.at ≤ length l.s) × (1 ≤ l.count) × (l.count ≤ l.most)
+abbrev pub invariant-loop-piece : goal.invariant-loop-piece
+invariant-loop-piece l = (l.from + l.piece.count ≤ l.piece.next) × (l.piece.next ≤ length l.s) × (l.piece.count ≤ length l.steps) × (l.piece.next < length l.s + l.piece.count)
 
-abbrev pub decreases-loop-count : goal.decreases-loop-count
-decreases-loop-count l = l.most - l.count
+abbrev pub decreases-loop-piece : goal.decreases-loop-piece
+decreases-loop-piece l = length l.s - l.piece.next
