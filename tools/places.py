@@ -8,7 +8,7 @@ import subprocess
 import sys
 
 ROOT = pathlib.Path(__file__).resolve().parent.parent
-NOTHING = re.compile(r'^(No[A-Z]\w*|Nothing|None|Not|Other|Unclear|Barred|Refused|WrongLength|Silent|Empty|OutOfRange)$')
+NOTHING = re.compile(r'^(No[A-Z]\w*|Nothing|None|Not|Other|Unclear|Barred|Refused|WrongLength|Silent|Empty|OutOfRange|TooSmall)$')
 NAME = re.compile(r'[A-Za-z_]\w*')
 
 
@@ -65,11 +65,13 @@ def places(sources):
     for path, text in sources:
         for m in re.finditer(r'^(?:pub )?enum (\w+) \{\n(.*?)^\}', text, re.M | re.S):
             cases = re.findall(r'^    (\w+)', m.group(2), re.M)
-            if any(NOTHING.match(c) for c in cases):
+            none = [c for c in cases if NOTHING.match(c)]
+            if none and len(none) < len(cases) and ('(' in m.group(2) or len(cases) == 2):
                 found['1 enums with a case for nothing or a refusal'].append(f'{path} {m.group(1)}')
         for m in re.finditer(r'^(?:pub )?struct (\w+)[^\n]*\{\n(.*?)^\}', text, re.M | re.S):
-            for flag in re.findall(r'^    (?:pub )?(\w+): bool', m.group(2), re.M):
-                found['1 flags beside a value'].append(f'{path} {m.group(1)}.{flag}')
+            if re.search(r'^    (?:pub )?\w+: (?!bool)', m.group(2), re.M):
+                for flag in re.findall(r'^    (?:pub )?(\w+): bool', m.group(2), re.M):
+                    found['1 flags beside a value'].append(f'{path} {m.group(1)}.{flag}')
             if re.search(r'\[.*; ', m.group(2)) and re.search(r'(len|kept|count): (usize|u8)', m.group(2)):
                 found['6 arrays by value or with a length beside'].append(f'{path} {m.group(1)}')
         for name, given, result, body in functions(text):

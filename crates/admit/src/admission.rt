@@ -14,7 +14,11 @@ fn one_to(most: u8, x: u8) -> Result<u8, Refusal>
     ensures ok { IfOk result (λ y. (one_to most x ≡ true) × (y ≡ x)) }
     ensures err { IfErr result (λ why. (one_to most x ≡ false) × (why ≡ Refusal.Range)) }
 {
-    if 1 <= x && x <= most { Ok(x) } else { Err(Refusal::Range) }
+    if 1 <= x && x <= most {
+        Ok(x)
+    } else {
+        Err(Refusal::Range)
+    }
 }
 
 // The place, from 0, of such a number.
@@ -31,7 +35,11 @@ fn first_write(r: Reading) -> Result<Work, Refusal>
     ensures ok { IfOk result (λ w. (reading_in r ≡ true) × (w ≡ Work.FirstWrite r)) }
     ensures err { IfErr result (λ why. (reading_in r ≡ false) × (why ≡ Refusal.Range)) }
 {
-    if r.in_range() { Ok(Work::FirstWrite(r)) } else { Err(Refusal::Range) }
+    if r.in_range() {
+        Ok(Work::FirstWrite(r))
+    } else {
+        Err(Refusal::Range)
+    }
 }
 
 // One match for range and places: a second one would be a second jump in the loop over steps.

@@ -1,6 +1,6 @@
 -- How long a list may be.
 use Rattle.std.specs.Prelude.{ℕ}
 
--- the bytes of `cases::buffer`, in which a list is held whole
+-- the bytes of a list that is held whole
 abbrev pub most_list_bytes : ℕ
 most_list_bytes = 65_536

@@ -5,6 +5,6 @@ mod bytes;
 mod head;
 mod line;
 
-pub use bytes::{MOST_LIST_BYTES, buffer, read_full};
+pub use bytes::List;
 pub use head::{Begun, begin};
 pub use line::{Line, line_from};

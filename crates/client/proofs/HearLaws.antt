@@ -1,15 +1,15 @@
 -- Laws of the hearing of a reply: which are awaited, which entry is the best, which reply ends its part, and what bounds the counters heard. Assumes nothing.
-use Prim.Native.Nat.{ℕ, ◌+◌, ◌≤◌, ◌<◌}
+use Prim.Native.Nat.{ℕ, ◌≤◌}
 use native.Mathlib.Omega.{arith}
 use mathlib.Core.Bool.{Bool, true, false, cond}
 use mathlib.Core.Path.{◌≡◌, refl, sym, ◌∙◌, ap}
 use lib.Dec.{eqb}
-use borrow.Author.Tests.{eq-eqb, ne_eqb, le-leb, lt-leb}
-use Rattle.client.specs.Names.{Body, Change, Client, Decision, Ending, Entry, Heard, Message, None, Option, Plan, Reading, Some, Told, Work}
+use borrow.Author.Tests.{eq-eqb, ne_eqb, le-leb}
+use Rattle.client.specs.Names.{Body, Client, Decision, Ending, Entry, Heard, Message, None, Option, Plan, Reading, Some, Told, Work}
 use Rattle.cabinet.specs.Entries.{factory_entry, takes}
-use Rattle.heard.specs.Heard.{none_heard, has_of, with_of, count_of}
+use Rattle.heard.specs.Heard.{has_of, with_of, count_of}
 use Rattle.client.specs.Begin.{part_of}
-use Rattle.client.specs.Hear.{told_stamp, told_entry, told_taken, told_by, awaits, told_of, best_of, chosen_by, discarded, counted, ended, first_write, first_read, second, hear_by, hears_of, told_counter}
+use Rattle.client.specs.Hear.{told_stamp, told_entry, told_taken, told_by, awaits, told_of, best_of, chosen_by, ended, first_write, first_read, second, hear_by, hears_of, told_counter}
 
 -- ---- which replies the open part awaits
 
@@ -27,10 +27,6 @@ module _ (c : Client) (m : Message) where
       pub await_again : has ≡ true → None ≡ told_of c m
       unfolding told_of
       await_again h = simp (eq-eqb _ _ same, sym ep, eq-eqb _ _ now, sym eh ∙ h)
-
-      pub await_in : (t : Option Told) → has ≡ false → t ≡ told_by c.work m.body → t ≡ told_of c m
-      unfolding told_of
-      await_in t h et = et ∙ simp (eq-eqb _ _ same, sym ep, eq-eqb _ _ now, sym eh ∙ h)
 
 -- ---- the best entry heard
 
@@ -142,7 +138,7 @@ module _ (plan : Plan) (i j : ℕ) (c : Client) (heard : Heard) (n : ℕ) (en : 
 
 -- `heard` is the set with the reply's cabinet, `s` what the reply says
 module _ (plan : Plan) (j : ℕ) (c : Client) (m : Message) (heard : Heard) (s : Option Told) (eh : heard ≡ with_of c.heard m.cabinet) (es : s ≡ told_of c m) where
-  hear_at : (t : Option Told) → s ≡ t → hear_by t plan m.client j c heard ≡ hears_of plan j c m
+  pub hear_at : (t : Option Told) → s ≡ t → hear_by t plan m.client j c heard ≡ hears_of plan j c m
   unfolding hears_of
   hear_at t g =
       ap (λ (h : Heard). hear_by t plan m.client j c h) eh

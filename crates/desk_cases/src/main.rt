@@ -7,19 +7,13 @@ mod list;
 mod show;
 mod tables;
 
-use cases::read_full;
+use cases::List;
 use std::rt::Files;
-use std::{env, fs, io};
+use std::{env, io};
 
-// A list that is longer than the buffer would be cut, and its counts would show that.
 fn one(rt: &(impl Files + Print + Eprint), path: &str) -> io::Result<()> {
-    match fs::open(rt, path) {
-        Ok(file) => {
-            let mut list = file;
-            let mut bytes = cases::buffer();
-            let len = read_full(&mut list, &mut bytes);
-            show::list(rt, path, list::compare(&bytes[..len]))
-        }
+    match List::open(rt, path) {
+        Ok(list) => show::list(rt, path, list::compare(list.bytes())),
         Err(e) => eprintln!(rt; "list: {e}"),
     }
 }

@@ -9,18 +9,12 @@ ghost use Rattle.firmware.specs.Offer.{verdict_on, number_of, answer_of, held_af
 
 use cabinet::Entry;
 
-pub const TAKEN: u32 = 20;
-
-pub const KEPT: u32 = 21;
-
-pub const REFUSED: u32 = 2;
-
 // What comes of an offer. It is refused where one of the two buffers holds no entry.
 #[derive(Clone, Copy, PartialEq, Eq)]
 enum Verdict {
-    Taken,
-    Kept,
-    Refused,
+    Taken = 20,
+    Kept = 21,
+    Refused = 2,
 }
 
 // The number that C is told.
@@ -28,11 +22,7 @@ impl From<Verdict> for u32 {
     ghost from_gives = { λ verdict number. number ≡ number_of verdict };
 
     fn from(verdict: Verdict) -> u32 {
-        match verdict {
-            Verdict::Taken => TAKEN,
-            Verdict::Kept => KEPT,
-            Verdict::Refused => REFUSED,
-        }
+        verdict as u32
     }
 }
 

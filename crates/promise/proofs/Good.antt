@@ -7,7 +7,7 @@ use native.Mathlib.Omega.{arith}
 use lib.ListN.{get_or, length}
 use borrow.Author.Tests.{le-ltb}
 use Rattle.limits.specs.Limits.{most_cabinets}
-use Rattle.promise.specs.Names.{Cabinet, Ok, Plan, Planned, Profile, Run, Step}
+use Rattle.promise.specs.Names.{Cabinet, Ok, Plan, Profile, Run, Step}
 use Rattle.plan.specs.Rule.{plan_of}
 use Rattle.plan.proofs.RuleLaws.{forgetful_meet, forgetful_stores, store_meet}
 use Rattle.plan.proofs.RuledLaws.{ruled_accepted}

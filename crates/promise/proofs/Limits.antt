@@ -6,7 +6,7 @@ use mathlib.Core.Bool.{true}
 use mathlib.Core.List.{List}
 use lib.ListN.{get_or}
 use Rattle.cabinet.specs.Entries.{factory_entry}
-use Rattle.promise.specs.Names.{Answer, Err, Ok, Outcome, Refusal, Run, Step}
+use Rattle.promise.specs.Names.{Err, Ok, Outcome, Refusal, Run, Step}
 use Rattle.run.specs.Lists.{run_all}
 use Rattle.run.specs.Start.{start_of}
 use Rattle.run.specs.Steps.{client_at, slot_at, cabinet_at, step_of}

@@ -4,7 +4,7 @@ use Prim.Native.Nat.{ℕ, zero, suc}
 use mathlib.Core.Path.{◌≡◌, refl}
 use mathlib.Core.Bool.{true}
 use mathlib.Core.List.{List, [], ◌∷◌}
-use Rattle.promise.specs.Names.{Answer, Entry, Err, Ok, Outcome, Planned, Reading, Refusal, Run, Step}
+use Rattle.promise.specs.Names.{Answer, Entry, Err, Ok, Outcome, Reading, Refusal, Run, Step}
 use Rattle.limits.specs.Limits.{to_factory}
 use Rattle.plan.specs.Rule.{forgetful_plan, store_plan, is_ruled, plan_of, chosen as chosen_plan, in_range as plan_in_range}
 use Rattle.cabinet.specs.Cabinets.{offered, taken, restarted, has_version, rolled_back}

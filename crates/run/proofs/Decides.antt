@@ -4,7 +4,7 @@
 use Prim.Native.Nat.{ℕ}
 use mathlib.Core.Path.{◌≡◌, sym, ap, ◌∙◌}
 use mathlib.Core.Bool.{Bool}
-use Rattle.run.specs.Names.{Answer, Run, Sight, Started, Stepped}
+use Rattle.run.specs.Names.{Answer, Sight, Started, Stepped}
 use Rattle.run.proofs.fresh.start.Reads as start
 use Rattle.run.proofs.gather.is_empty.Reads as is-empty
 use Rattle.run.proofs.Run.others_marked.Reads as others-marked
@@ -25,14 +25,16 @@ undamaged_decides κs a x y s s' p q = p ∙ sym q
 pub undamaged_any : (κs : _) (a : _) → undamaged.Pre κs a
 undamaged_any κs a = tt
 
-pub take_decides : (κs : _) (a : _) (x y : Answer) (s s' : _) → take.Post κs a x s → take.Post κs a y s' → x ≡ y
-take_decides κs a x y s s' p q = ap Stepped.answer (p ∙ sym q)
+pub take_decides : (κs : _) (a : _) (x y : Answer) (s s' : _) → take.Post κs a x s → take.Post κs a y s'
+    → (x ≡ y) × (s.0.now ≡ s'.0.now)
+take_decides κs a x y s s' p q = let same = p ∙ sym q in (ap Stepped.answer same, ap Stepped.run same)
 
 pub take_any : (κs : _) (a : _) → take.Pre κs a
 take_any κs a = tt
 
-pub go_decides : (κs : _) (a : _) (x y : Answer) (s s' : _) → go.Post κs a x s → go.Post κs a y s' → x ≡ y
-go_decides κs a x y s s' p q = ap Stepped.answer (p ∙ sym q)
+pub go_decides : (κs : _) (a : _) (x y : Answer) (s s' : _) → go.Post κs a x s → go.Post κs a y s'
+    → (x ≡ y) × (s.0.now ≡ s'.0.now)
+go_decides κs a x y s s' p q = let same = p ∙ sym q in (ap Stepped.answer same, ap Stepped.run same)
 
 pub is_empty_decides : (κs : _) (a : _) (x y : Bool) (s s' : _) → is-empty.Post κs a x s → is-empty.Post κs a y s' → x ≡ y
 is_empty_decides κs a x y s s' p q = p ∙ sym q

@@ -1,32 +1,34 @@
--- Laws of the two scans, for a free slot and for marked cabinets: what is counted from a place on is what std finds in the list. Assumes nothing.
-use Rattle.std.proofs.Common.{ℕ, zero, suc, ◌+◌, ◌≡◌, ◌≤◌, ◌<◌, Bool, true, false, cond, not, ◌&&◌, List, [], ◌∷◌, Option, Some, None, length, sym, ap, refl, ◌∙◌, arith, nat_lt, cond}
-use Rattle.std.proofs.lemmas.Bool.Decides.{nat_tests}
-use Rattle.std.specs.List.{prefix_len, position_or_len, filter, enumerate_from}
+-- Laws of the two scans: one for each way that a turn of that for a free slot can go, and what is counted of the marked cabinets. Assumes nothing.
+use Rattle.std.proofs.Common.{ℕ, zero, suc, ◌+◌, ◌≡◌, ◌≤◌, Bool, true, false, cond, not, ◌&&◌, List, [], ◌∷◌, length, get_or, drop, refl, arith}
+use Rattle.std.specs.List.{filter, enumerate_from}
 use native.Mathlib.Numerals.{add-one}
-use lib.Dec.{eqb, ltb}
-use Rattle.limits.specs.Limits.{most_slots}
+use lib.Dec.{eqb}
+use lib.ListN.{drop_of_length-le}
+use lib.Seq.{drop-nil}
+use Rattle.types.specs.Parts.{empty_slot}
 use Rattle.run.specs.Names.{Cabinet, Slot}
 use Rattle.run.specs.Gather.{is_empty, first_from, others_from}
 
-abbrev pub free : Slot → Bool
-free t = is_empty t.held
-
-first_is : (i : ℕ) (l : List Slot) → first_from i l ≡ i + position_or_len free l
+pub first_end : (l : List Slot) (i : ℕ) → length l ≤ i → first_from i (drop i l) ≡ i
 unfolding first_from
-first_is i [] = omega arith
-first_is i (t ∷ l) = go (free t) (first_is (suc i) l)
-  where
-    go : (b : Bool) → first_from (suc i) l ≡ suc i + position_or_len free l
-        → cond b i (first_from (suc i) l) ≡ i + cond (not b) (1 + position_or_len free l) 0
-    go true e = omega arith
-    go false e = omega arith
+first_end l i h = rw (drop_of_length-le l {i = i} h)
 
-module _ (l : List Slot) (r : Option ℕ) (e : r ≡ cond (ltb (position_or_len free l) (length l)) (Some (position_or_len free l)) None) where
-  pub first_found : (j : ℕ) → r ≡ Some j → (first_from 0 l ≡ j) × (j < length l)
-  first_found j f = grind (arith, nat_tests, first_is 0 l)
+-- past the end a slot counts as free, so that neither of these asks for the list's length
+pub first_here : (l : List Slot) (i k : ℕ) → is_empty (get_or l i empty_slot).held ≡ true → first_from k (drop i l) ≡ k
+unfolding first_from
+first_here [] i k e = rw (drop-nil {A = Slot} i)
+first_here (t ∷ l) zero k e = rw e
+first_here (t ∷ l) (suc i) k e = first_here l i k e
 
-  pub first_none : r ≡ None → length l ≤ first_from 0 l
-  first_none f = grind (arith, nat_tests, first_is 0 l)
+next : (l : List Slot) (i k : ℕ) → is_empty (get_or l i empty_slot).held ≡ false → first_from k (drop i l) ≡ first_from (suc k) (drop (suc i) l)
+unfolding first_from
+next [] i k e = cc
+next (t ∷ l) zero k e = rw e
+next (t ∷ l) (suc i) k e = next l i k e
+
+pub first_next : (l : List Slot) (i k : ℕ) → is_empty (get_or l i empty_slot).held ≡ false
+    → first_from k (drop i l) ≡ first_from (k + 1) (drop (i + 1) l)
+first_next l i k e = rw (add-one, add-one) (next l i k e)
 
 -- the cabinets at other places than p that are marked
 abbrev pub other : ℕ → ℕ × Cabinet → Bool
@@ -41,16 +43,5 @@ others_are p i (k ∷ l) = go (other p (i, k)) (rw add-one (others_are p (suc i)
     rest = filter (other p) (enumerate_from (i + 1) l)
 
     go : (b : Bool) → length rest ≡ others_from p (suc i) l → length (cond b ((i, k) ∷ rest) rest) ≡ cond b 1 0 + others_from p (suc i) l
-    go true e = omega arith
-    go false e = omega arith
-
-pub others_few : (p i : ℕ) (l : List Cabinet) → length (filter (other p) (enumerate_from i l)) ≤ length l
-others_few p i [] = omega arith
-others_few p i (k ∷ l) = go (other p (i, k)) (others_few p (i + 1) l)
-  where
-    rest : List (ℕ × Cabinet)
-    rest = filter (other p) (enumerate_from (i + 1) l)
-
-    go : (b : Bool) → length rest ≤ length l → length (cond b ((i, k) ∷ rest) rest) ≤ length (k ∷ l)
     go true e = omega arith
     go false e = omega arith

@@ -1,7 +1,7 @@
 -- A step that was let in is the step that is decided and put back, and its places are the run's. Assumes nothing.
-use Rattle.std.proofs.Common.{ℕ, ◌<◌, ◌≤◌, ◌≡◌, true, sym, ap, subst, ◌∙◌, arith}
+use Rattle.std.proofs.Common.{ℕ, ◌<◌, ◌≡◌, true, sym, ap, subst, ◌∙◌, arith}
 use Rattle.limits.specs.Limits.{most_cabinets}
-use Rattle.run.specs.Names.{Asked, Err, Ok, Refusal, Result, Run, Step, Stepped}
+use Rattle.run.specs.Names.{Asked, Err, Ok, Refusal, Result, Run, Step}
 use Rattle.admit.specs.Admit.{admit_of}
 use Rattle.admit.proofs.AdmitLaws.{Placed, admitted_placed}
 use Rattle.run.specs.Steps.{decide_of, put_back, stepped_of, go_of, step_of}

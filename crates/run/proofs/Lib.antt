@@ -4,12 +4,11 @@ pub mod FitLaws
 pub mod FrameLaws
 pub mod GatherLaws
 pub mod GoLaws
-pub mod GuardLaws
 pub mod ListLaws
 pub mod MeetLaws
+pub mod RollLaws
 pub mod ShapeLaws
 pub mod SoundLaws
-pub mod StartLaws
 pub mod UndamagedCabinets
 pub mod UndamagedChanges
 pub mod UndamagedClients

@@ -1,6 +1,6 @@
 -- One step of a run: decide, put back. `step_of` is clauses S5 to S12 of docs/SCOPE.md, the published paper's static algorithm (S1.1).
 use Rattle.std.specs.Prelude.{ℕ, ◌+◌, cond, List, get_or, set}
-use Rattle.run.specs.Names.{Answer, Asked, Cabinet, Change, Client, Decision, Deed, Err, Held, Ok, Outcome, Plan, Refusal, Result, Run, Slot, Step, Stepped}
+use Rattle.run.specs.Names.{Asked, Cabinet, Change, Client, Decision, Deed, Err, Held, Ok, Outcome, Plan, Refusal, Result, Run, Slot, Step, Stepped}
 use Rattle.types.specs.Parts.{empty_slot, fresh_client, no_cabinet, sight_of}
 use Rattle.admit.specs.Admit.{admit_of}
 use Rattle.client.specs.Begin.{begins_of, sends_of, leaves_of}

@@ -6,6 +6,7 @@ ghost use Rattle.run.specs.Gather.{is_empty, first_from, others_from};
 
 use super::Run;
 use cabinet::Cabinet;
+use limits::byte;
 use types::{Held, Sight, Slot};
 
 pub fn is_empty(t: &Slot) -> bool
@@ -20,8 +21,14 @@ impl Run {
         ensures free { IfSome result (λ j. (first_from 0 self.now.slots ≡ j) × (j < most_slots)) }
         ensures full { IfNone result (most_slots ≤ first_from 0 self.now.slots) }
     {
-        let j = self.slots.iter().position(|t| is_empty(t))?;
-        Some(j as u8)
+        let mut free = None;
+        for j in 0..byte::MOST_SLOTS {
+            if is_empty(&self.slots[j as usize]) {
+                free = Some(j);
+                break;
+            }
+        }
+        free
     }
 
     pub fn others_marked(&self, p: u8) -> u8

@@ -1,12 +1,11 @@
 -- Laws of a line's fields: the first, the others, and what stands behind the first. Assumes nothing.
 use Prim.Native.Nat.{ℕ, zero, suc, ◌+◌, ◌-◌, ◌<◌, ◌≤◌}
-use native.Mathlib.Numerals.{add-one}
 use native.Mathlib.Omega.{arith}
 use mathlib.Core.Bool.{Bool, true, false, cond, ◌&&◌}
-use mathlib.Core.List.{List, [], ◌∷◌, ◌++◌}
+use mathlib.Core.List.{List, [], ◌∷◌, ◌++◌, append_assoc}
 use mathlib.Core.Path.{◌≡◌, refl, sym, ◌∙◌, ap}
-use lib.ListN.{length, take, drop, length-drop}
-use lib.Seq.{take_all}
+use lib.ListN.{length, take, drop, length-append, length-drop}
+use lib.Seq.{take_all, drop_at}
 use lib.Dec.{eqb}
 use borrow.Author.Tests.{eq-eqb, ne_eqb, eqb-true}
 use Rattle.text.specs.Fields.{same, split, onto, is_empty}
@@ -33,33 +32,28 @@ split_is (b ∷ l) = go (eqb b 44) (split_is l)
     go true e = refl
     go false e = rw e
 
-pub first_le : (l : List ℕ) → length (first l) ≤ length l
+-- the first field, and what stands behind it
+pub first_rest : (l : List ℕ) → l ≡ first l ++ drop (length (first l)) l
 unfolding first
-first_le [] = omega arith
-first_le (b ∷ l) = go (eqb b 44) (first_le l)
+first_rest [] = refl
+first_rest (b ∷ l) = go (eqb b 44) (first_rest l)
   where
-    go : (t : Bool) → length (first l) ≤ length l → length (cond t [] (b ∷ first l)) ≤ suc (length l)
-    go true h = omega arith
-    go false h = omega arith
+    go : (t : Bool) → l ≡ first l ++ drop (length (first l)) l
+        → ◌≡◌ {A = List ℕ} (b ∷ l) (cond t [] (b ∷ first l) ++ drop (length (cond t [] (b ∷ first l))) (b ∷ l))
+    go true e = refl
+    go false e = ap (λ (m : List ℕ). b ∷ m) e
+
+pub first_le : (l : List ℕ) → length (first l) ≤ length l
+first_le l = omega (arith, ap length (first_rest l), length-append (first l) (drop (length (first l)) l))
 
 -- a line that is one field
-pub others_none : (l : List ℕ) → length l ≤ length (first l) → others l ≡ []
-unfolding first others
-others_none [] h = refl
-others_none (b ∷ l) h = go (eqb b 44) h (others_none l)
+pub one_field : (l : List ℕ) → length l ≤ length (first l) → (others l ≡ []) × (after l ≡ [])
+unfolding first others after
+one_field [] h = (refl, refl)
+one_field (b ∷ l) h = go (eqb b 44) h (one_field l)
   where
-    go : (t : Bool) → suc (length l) ≤ length (cond t [] (b ∷ first l)) → (length l ≤ length (first l) → others l ≡ [])
-        → cond t (split l) (others l) ≡ []
-    go true h f = absurd (omega arith)
-    go false h f = f (omega arith)
-
-pub after_none : (l : List ℕ) → length l ≤ length (first l) → after l ≡ []
-unfolding first after
-after_none [] h = refl
-after_none (b ∷ l) h = go (eqb b 44) h (after_none l)
-  where
-    go : (t : Bool) → suc (length l) ≤ length (cond t [] (b ∷ first l)) → (length l ≤ length (first l) → after l ≡ [])
-        → cond t l (after l) ≡ []
+    go : (t : Bool) → suc (length l) ≤ length (cond t [] (b ∷ first l)) → (length l ≤ length (first l) → (others l ≡ []) × (after l ≡ []))
+        → (cond t (split l) (others l) ≡ []) × (cond t l (after l) ≡ [])
     go true h f = absurd (omega arith)
     go false h f = f (omega arith)
 
@@ -74,28 +68,6 @@ others_some (b ∷ l) h = go (eqb b 44) h (others_some l)
     go true h f = refl
     go false h f = f (omega arith)
 
-pub after_some : (l : List ℕ) → length (first l) < length l → after l ≡ drop (length (first l) + 1) l
-unfolding first after
-after_some [] h = absurd (omega arith)
-after_some (b ∷ l) h = rw add-one (go (eqb b 44) h (after_some l))
-  where
-    go : (t : Bool) → length (cond t [] (b ∷ first l)) < suc (length l)
-        → (length (first l) < length l → after l ≡ drop (length (first l) + 1) l)
-        → cond t l (after l) ≡ drop (suc (length (cond t [] (b ∷ first l)))) (b ∷ l)
-    go true h f = refl
-    go false h f = f (omega arith) ∙ rw add-one
-
--- the first field, and what stands behind it
-pub first_rest : (l : List ℕ) → l ≡ first l ++ drop (length (first l)) l
-unfolding first
-first_rest [] = refl
-first_rest (b ∷ l) = go (eqb b 44) (first_rest l)
-  where
-    go : (t : Bool) → l ≡ first l ++ drop (length (first l)) l
-        → ◌≡◌ {A = List ℕ} (b ∷ l) (cond t [] (b ∷ first l) ++ drop (length (cond t [] (b ∷ first l))) (b ∷ l))
-    go true e = refl
-    go false e = ap (λ (m : List ℕ). b ∷ m) e
-
 pub first_after : (l : List ℕ) → length (first l) < length l → l ≡ first l ++ (44 ∷ after l)
 unfolding first after
 first_after [] h = absurd (omega arith)
@@ -106,6 +78,11 @@ first_after (b ∷ l) h = go (eqb b 44) refl h (first_after l)
         → ◌≡◌ {A = List ℕ} (b ∷ l) (cond t [] (b ∷ first l) ++ (44 ∷ cond t l (after l)))
     go true p h f = let e : b ≡ 44 = eqb-true b 44 p in cc
     go false p h f = ap (λ (m : List ℕ). b ∷ m) (f (omega arith))
+
+pub after_some : (l : List ℕ) → length (first l) < length l → after l ≡ drop (length (first l) + 1) l
+after_some l h =
+    sym (ap (drop (length (first l) + 1)) (first_after l h ∙ sym (append_assoc (first l) (44 ∷ []) (after l)))
+    ∙ drop_at (first l ++ (44 ∷ [])) (after l) (length (first l) + 1) (length-append (first l) (44 ∷ [])))
 
 -- the first field with other bytes behind its comma
 pub first_again : (l z : List ℕ) → first (first l ++ (44 ∷ z)) ≡ first l

@@ -8,7 +8,7 @@ use super::{field, reading, word};
 use types::Step;
 
 // A plan has its n, k, r and b. A line of any other form is no row; it is answered 2.
-#[derive(Clone, Copy)]
+#[derive(Clone, Copy, PartialEq, Eq)]
 pub enum Row {
     Plan(u64, u64, u64, u64),
     Step(Step),

@@ -7,7 +7,7 @@ use super::row::{Row, parse};
 use types::Step;
 
 // A row's step, `Other` where the row is none, and the place behind the row's LF.
-#[derive(Clone, Copy)]
+#[derive(Clone, Copy, PartialEq, Eq)]
 pub struct Found {
     pub step: Step,
     pub end: usize,
@@ -56,7 +56,7 @@ pub fn find(s: &[u8], from: usize) -> Option<Found>
     let rest = &s[from..];
     let row = step_ahead(rest).or_else(|| by_end(rest))?;
     Some(Found {
-        step: row.step,
         end: from + row.end,
+        ..row
     })
 }

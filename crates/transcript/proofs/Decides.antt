@@ -1,8 +1,9 @@
--- What the public contracts decide: any two outcomes that one allows for the same arguments agree on it. `fresh` decides its result, and asks
--- nothing of its caller. `feed` decides every byte of the buffer, where its text ends, the phase, the next row's number, the run and what is held
--- of a row. `finish` decides its result and every byte of the buffer. Not decided: of a row that is too long, by which length above `most_line`
--- `feed` says so; and the bytes of the row's array that are not held of a row, after `finish` all of them. `Post` and `Pre` are the contract as the
--- checker reads it in src/, so a weaker one is refused here, and for `fresh` one that asks for something. Assumes nothing.
+-- What the public contracts decide: any two outcomes that one allows for the same arguments agree on it. `new` and `goes_on` decide their
+-- results, and ask nothing of their callers. `feed` decides every byte of the buffer, where its text ends, the phase, the next row's number, the
+-- run and what is held of a row. `finish` decides its result and every byte of the buffer. Not decided: of a row that is too long, by which length
+-- above `most_line` `feed` says so; and the bytes of the row's array that are not held of a row, after `finish` all of them. `Post` and `Pre` are
+-- the contract as the checker reads it in src/, so a weaker one is refused here, and for `new` and `goes_on` one that asks for something. Assumes
+-- nothing.
 use Prim.Native.Nat.{ℕ, ◌≤◌}
 use native.Mathlib.Omega.{arith}
 use mathlib.Core.Bool.{Bool, true, false, cond}
@@ -13,24 +14,31 @@ use lib.Seq.{length-take-le}
 use lib.Dec.{leb}
 use borrow.Author.Tests.{le-leb, leb-true}
 use Rattle.print.proofs.PutLaws.{agree}
-use Rattle.transcript.specs.Names.{Fed}
-use Rattle.transcript.specs.Machine.{Line, Over, Mach, held_of, most_line, line_room}
-use Rattle.transcript.proofs.bytes.feed.Reads as feed
-use Rattle.transcript.proofs.ends.finish.Reads as finish
-use Rattle.transcript.proofs.bytes.fresh.Reads as fresh
+use Rattle.transcript.specs.Names.{Rehearsal}
+use Rattle.transcript.specs.Machine.{Line, Over, Mach, held_of, most_line}
+use Rattle.transcript.proofs.Rehearsal.feed.Reads as feed
+use Rattle.transcript.proofs.Rehearsal.finish.Reads as finish
+use Rattle.transcript.proofs.Rehearsal.goes_on.Reads as goes_on
+use Rattle.transcript.proofs.Rehearsal.new.Reads as new
 
-pub fresh_decides : (κs : _) (a : _) (x y : Fed) (s s' : _) → fresh.Post κs a x s → fresh.Post κs a y s' → x ≡ y
-fresh_decides κs a x y s s' p q = p ∙ sym q
+pub new_decides : (κs : _) (a : _) (x y : Rehearsal) (s s' : _) → new.Post κs a x s → new.Post κs a y s' → x ≡ y
+new_decides κs a x y s s' p q = p ∙ sym q
 
-pub fresh_any : (κs : _) (a : _) → fresh.Pre κs a
-fresh_any κs a = tt
+pub new_any : (κs : _) (a : _) → new.Pre κs a
+new_any κs a = tt
 
-pub feed_decides : (κs : _) (a : _) (r r' : Fed) (s s' : _) → feed.Post κs a r s → feed.Post κs a r' s'
-    → (r.kept.at ≡ r'.kept.at)
-    × (r.kept.phase ≡ r'.kept.phase)
-    × (r.kept.row ≡ r'.kept.row)
-    × (r.run ≡ r'.run)
-    × (held_of r.kept.len s.1.0.now ≡ held_of r'.kept.len s'.1.0.now)
+pub goes_on_decides : (κs : _) (a : _) (x y : Bool) (s s' : _) → goes_on.Post κs a x s → goes_on.Post κs a y s' → x ≡ y
+goes_on_decides κs a x y s s' p q = p ∙ sym q
+
+pub goes_on_any : (κs : _) (a : _) → goes_on.Pre κs a
+goes_on_any κs a = tt
+
+pub feed_decides : (κs : _) (a : _) (r r' : ℕ) (s s' : _) → feed.Post κs a r s → feed.Post κs a r' s'
+    → (r ≡ r')
+    × (s.0.now.phase ≡ s'.0.now.phase)
+    × (s.0.now.row ≡ s'.0.now.row)
+    × (s.0.now.run ≡ s'.0.now.run)
+    × (held_of s.0.now.len s.0.now.line ≡ held_of s'.0.now.len s'.0.now.line)
     × (s.1.1.0.now ≡ s'.1.1.0.now)
 feed_decides κs a r r' s s' p q =
     let m = p.0 ∙ sym q.0 in
@@ -38,7 +46,7 @@ feed_decides κs a r r' s s' p q =
     (w.0, ap (λ (x : Mach). x.phase) m, ap (λ (x : Mach). x.row) m, ap (λ (x : Mach). x.run) m, ap (λ (x : Mach). x.held) m, w.1)
 
 -- what is held decides a row that is not too long: its length and its bytes
-pub held_same : (n n' : ℕ) (l l' : List ℕ) → length l ≡ line_room → length l' ≡ line_room → n ≤ most_line → held_of n l ≡ held_of n' l'
+pub held_same : (n n' : ℕ) (l l' : List ℕ) → length l ≡ most_line → length l' ≡ most_line → n ≤ most_line → held_of n l ≡ held_of n' l'
     → (n ≡ n') × (take n l ≡ take n' l')
 unfolding held_of
 held_same n n' l l' size size' few e = go (leb n' most_line) refl (rw (le-leb n most_line few) at e)

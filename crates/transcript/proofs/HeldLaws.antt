@@ -1,20 +1,19 @@
 -- The bytes of a row so far, as the machine holds them, and what it sees in them: the same as Rehearsal.antt. Assumes nothing.
-use Prim.Native.Nat.{ℕ, ◌+◌, ◌-◌, ◌<◌, ◌≤◌}
-use native.Mathlib.Numerals.{add-one}
+use Prim.Native.Nat.{ℕ, ◌-◌, ◌<◌, ◌≤◌}
 use native.Mathlib.Omega.{arith}
 use mathlib.Core.Bool.{Bool, true, false, cond}
 use mathlib.Core.List.{List, [], ◌∷◌, ◌++◌}
-use mathlib.Core.Path.{◌≡◌, refl, sym, ◌∙◌, ap}
+use mathlib.Core.Path.{◌≡◌, refl}
 use lib.ListN.{length, take, get_or, length-append}
-use lib.Seq.{length-take-le, take-suc}
+use lib.Seq.{length-take-le}
 use lib.Dec.{eqb, leb, ltb}
 use borrow.Author.Tests.{le-leb, lt-leb, leb-false, ltb-true, ltb-false}
 use Rattle.text.specs.Ends.{unended}
 use Rattle.text.specs.Words.{header}
 use Rattle.text.specs.Rows.{row_of, is_header, most_bytes}
-use Rattle.transcript.specs.Names.{Row}
+use Rattle.transcript.specs.Names.{None, Option, Row}
 use Rattle.text.proofs.BytesLaws.{same_lengths}
-use Rattle.transcript.specs.Machine.{Held, Line, Over, short, row_in, head_in, push, held_of, most_line}
+use Rattle.transcript.specs.Machine.{Held, Line, Over, short, row_in, head_in, push, most_line}
 
 abbrev pub holds : List ℕ → Held
 holds l = cond (leb (length l) most_line) (Line l) Over
@@ -29,18 +28,6 @@ hold_push p b = go (leb (length p) most_line) (ltb (length p) most_line) refl re
     go true false e f = let h : most_line < length (p ++ (b ∷ [])) = omega (arith, length-append p (b ∷ []), ltb-false (length p) most_line f) in rw (lt-leb _ _ h, f)
     go false u e f = let h : most_line < length (p ++ (b ∷ [])) = omega (arith, length-append p (b ∷ []), leb-false (length p) most_line e) in rw (lt-leb _ _ h)
 
--- the bytes of a list, one after another
-
-pub hold_none : (line s : List ℕ) → held_of 0 line ≡ holds (take 0 s)
-unfolding held_of
-hold_none line s = refl
-
-pub hold_next : (n n' : ℕ) (line line' s : List ℕ) (i : ℕ) → i < length s → held_of n line ≡ holds (take i s)
-    → held_of n' line' ≡ push (held_of n line) (get_or s i 0) → held_of n' line' ≡ holds (take (i + 1) s)
-hold_next n n' line line' s i h e f =
-    let t : take (i + 1) s ≡ take i s ++ (get_or s i 0 ∷ []) = rw add-one (take-suc s i 0 h) in
-    f ∙ ap (λ (x : Held). push x (get_or s i 0)) e ∙ hold_push (take i s) (get_or s i 0) ∙ ap holds (sym t)
-
 -- a row without its end lacks one byte at most
 unended_long : (l : List ℕ) → most_line < length l → most_bytes < length (unended l)
 unfolding unended
@@ -50,7 +37,7 @@ unended_long l h = go (eqb (get_or l (length l - 1) 0) 13)
     go true = let e : length (take (length l - 1) l) ≡ length l - 1 = length-take-le (length l - 1) l (omega arith) in omega arith
     go false = omega arith
 
-long_row : (l : List ℕ) → most_bytes < length l → Row.Other ≡ row_of l
+long_row : (l : List ℕ) → most_bytes < length l → None ≡ row_of l
 unfolding row_of
 long_row l h = rw (lt-leb _ _ h)
 
@@ -75,10 +62,10 @@ module _ (A : Type 0) (seen : Held → A) (of : List ℕ → A) (line : (l : Lis
       go false e = let h : most_line < length p = leb-false (length p) most_line e in long p (omega arith)
 
 pub row_lf : (p : List ℕ) → row_in (short (holds p)) ≡ row_of (unended p)
-row_lf = seen_lf Row row_in row_of (λ l. refl) long_row
+row_lf = seen_lf (Option Row) row_in row_of (λ l. refl) long_row
 
 pub row_end : (p : List ℕ) → row_in (holds p) ≡ row_of p
-row_end = seen_end Row row_in row_of (λ l. refl) long_row
+row_end = seen_end (Option Row) row_in row_of (λ l. refl) long_row
 
 pub head_lf : (p : List ℕ) → head_in (short (holds p)) ≡ is_header (unended p)
 head_lf = seen_lf Bool head_in is_header (λ l. refl) long_head

@@ -1,3 +1,4 @@
+pub mod AnswerLaws
 pub mod Decides
 pub mod HeldLaws
 pub mod MachineLaws

@@ -6,7 +6,7 @@ use mathlib.Core.List.{List, [], ◌∷◌, ◌++◌, append_assoc, append-nil}
 use mathlib.Core.Path.{◌≡◌, refl, sym, ◌∙◌, ap}
 use lib.ListN.{length}
 use lib.Dec.{eqb, leb}
-use Rattle.transcript.specs.Names.{Phase, Planned, Row, Run}
+use Rattle.transcript.specs.Names.{Err, None, Ok, Option, Phase, Planned, Row, Run, Some, Unplanned}
 use Rattle.run.specs.Start.{start_of}
 use Rattle.text.specs.Words.{header}
 use Rattle.text.specs.Rows.{row_of, is_header}
@@ -95,7 +95,7 @@ running_row : (p : List ℕ) (n : ℕ) (run : Run) (l : List ℕ)
     ≡ answer_text n run (row_of (unended p)) ++ text_from (mach (Line []) Phase.Running (n + 1) (run_after run (row_of (unended p)))) l
 unfolding say_line next_phase next_row next_run
 running_row p n run l =
-    ap (λ (x : Row). answer_text n run x ++ text_from (mach (Line []) Phase.Running (n + 1) (run_after run x)) l) (row_lf p)
+    ap (λ (x : Option Row). answer_text n run x ++ text_from (mach (Line []) Phase.Running (n + 1) (run_after run x)) l) (row_lf p)
 
 steps_row : (n : ℕ) (run : Run) (l : List ℕ) (ls : List (List ℕ))
     → steps_text n run (l ∷ ls) ≡ answer_text n run (row_of l) ++ steps_text (n + 1) (run_after run (row_of l)) ls
@@ -135,24 +135,24 @@ after_none (Err Unplanned.OutOfRange) run = refl
 after_none (Err Unplanned.TooSmall) run = refl
 after_none (Ok p) run = refl
 
-plan_alone : (x : Row) → plan_say 1 x ≡ plan_row_text x []
-plan_alone Row.Other = refl
-plan_alone (Row.Plan n k r b) =
+plan_alone : (x : Option Row) → plan_say 1 x ≡ plan_row_text x []
+plan_alone None = refl
+plan_alone (Some (Row.Plan n k r b)) =
     sym
     (ap (λ (y : List ℕ). plan_text 1 (start_of n k r b).planned ++ y) (after_none (start_of n k r b).planned (start_of n k r b).run) ∙ append-nil _)
-plan_alone (Row.Step s) = refl
+plan_alone (Some (Row.Step s)) = refl
 
 start_text : (q : Planned) (run : Run) (l : List ℕ) → text_from (mach (Line []) (start_phase q) 2 run) l ≡ after_plan q run (rows_from [] l)
 start_text (Err Unplanned.OutOfRange) run l = text_ended (Line []) 2 run l
 start_text (Err Unplanned.TooSmall) run l = text_ended (Line []) 2 run l
 start_text (Ok p) run l = text_running [] 2 run l
 
-plan_then : (x : Row) (run : Run) (l : List ℕ)
+plan_then : (x : Option Row) (run : Run) (l : List ℕ)
     → plan_say 1 x ++ text_from (mach (Line []) (plan_phase x) 2 (plan_run run x)) l ≡ plan_row_text x (rows_from [] l)
-plan_then Row.Other run l = ap (λ (y : List ℕ). refusal_text 1 ++ y) (text_ended (Line []) 2 run l) ∙ append-nil _
-plan_then (Row.Plan n k r b) run l =
+plan_then None run l = ap (λ (y : List ℕ). refusal_text 1 ++ y) (text_ended (Line []) 2 run l) ∙ append-nil _
+plan_then (Some (Row.Plan n k r b)) run l =
     ap (λ (y : List ℕ). plan_text 1 (start_of n k r b).planned ++ y) (start_text (start_of n k r b).planned (start_of n k r b).run l)
-plan_then (Row.Step s) run l = ap (λ (y : List ℕ). refusal_text 1 ++ y) (text_ended (Line []) 2 run l) ∙ append-nil _
+plan_then (Some (Row.Step s)) run l = ap (λ (y : List ℕ). refusal_text 1 ++ y) (text_ended (Line []) 2 run l) ∙ append-nil _
 
 planning_end : (run : Run) (q : List ℕ) → text_from (mach (holds q) Phase.Planning 1 run) [] ≡ after_header (last_row q)
 unfolding text_from end_by say_line
@@ -165,7 +165,7 @@ planning_row : (p : List ℕ) (run : Run) (l : List ℕ)
     l
     ≡ plan_row_text (row_of (unended p)) (rows_from [] l)
 unfolding say_line next_phase next_row next_run
-planning_row p run l = plan_then (row_in (short (holds p))) run l ∙ ap (λ (x : Row). plan_row_text x (rows_from [] l)) (row_lf p)
+planning_row p run l = plan_then (row_in (short (holds p))) run l ∙ ap (λ (x : Option Row). plan_row_text x (rows_from [] l)) (row_lf p)
 
 text_planning : (p : List ℕ) (run : Run) (l : List ℕ) → text_from (mach (holds p) Phase.Planning 1 run) l ≡ after_header (rows_from p l)
 unfolding rows_from

@@ -1,13 +1,12 @@
 -- Whole rows where steps are due: what the machine makes of their bytes is what the steps that they ask for make of the run. Assumes nothing.
-use Prim.Native.Nat.{ℕ, suc, ◌+◌, ◌≤◌}
+use Prim.Native.Nat.{ℕ, zero, suc, ◌+◌, ◌<◌}
 use native.Mathlib.Omega.{arith}
 use mathlib.Core.Bool.{true}
 use mathlib.Core.List.{List, [], ◌∷◌, ◌++◌, append_assoc, append-nil}
 use mathlib.Core.Path.{◌≡◌, refl, sym, ◌∙◌, ap}
-use lib.ListN.{length, take}
-use lib.Seq.{take_all}
+use lib.ListN.{get_or, length}
 use borrow.Author.Tests.{ne_eqb}
-use Rattle.transcript.specs.Names.{Answer, Phase, Refusal, Row, Run, Step, Stepped}
+use Rattle.transcript.specs.Names.{Err, None, Option, Phase, Refusal, Row, Run, Some, Step, Stepped}
 use Rattle.admit.specs.Admit.{in_range, admit_of}
 use Rattle.run.specs.Lists.{run_all}
 use Rattle.run.specs.Steps.{decide_of, go_of, step_of}
@@ -19,7 +18,7 @@ use Rattle.text.specs.Rows.{row_of}
 use Rattle.text.proofs.BreakLaws.{breaks_first}
 use Rattle.print.specs.Rows.{step_text, refusal_text}
 use Rattle.turns.specs.Turns.{closed, breaks_in, steps_in, text_all}
-use Rattle.transcript.specs.Machine.{Held, Mach, short, row_in, next_phase, next_row, next_run, say_line, push, ended, step_m, say_m, run_m, say_all, held_of, at_row}
+use Rattle.transcript.specs.Machine.{Held, Mach, short, row_in, next_phase, next_row, next_run, say_line, push, ended, step_m, say_m, run_m, say_all, at_row}
 use Rattle.transcript.specs.Rehearsal.{answer_text, run_after}
 use Rattle.transcript.proofs.HeldLaws.{holds, hold_push, row_lf}
 
@@ -42,9 +41,10 @@ bare_run p (b ∷ l) n run e =
     ∙ bare_run (p ++ (b ∷ [])) l n run q.1
     ∙ ap (λ (x : List ℕ). rowing (holds x) n run) (append_assoc p (b ∷ []) l)
 
-pub hold_all : (n i : ℕ) (line s : List ℕ) → length s ≤ i → breaks s ≡ 0 → held_of n line ≡ holds (take i s) → (k : ℕ) (run : Run)
-    → run_m (at_row k run) s ≡ rowing (held_of n line) k run
-hold_all n i line s h bare e k run = bare_run [] s k run bare ∙ ap (λ (x : Held). rowing x k run) (sym (e ∙ ap holds (take_all i s h)))
+pub no_lf : (s : List ℕ) (i : ℕ) → breaks s ≡ 0 → i < length s → (get_or s i 0 ≡ 10 → ⊥)
+no_lf [] i e h = absurd (omega arith)
+no_lf (b ∷ s) zero e h = (breaks_first b s e).0
+no_lf (b ∷ s) (suc i) e h = no_lf s i (breaks_first b s e).1 (omega arith)
 
 -- and nothing is said of them
 byte_none : (m : Mach) (b : ℕ) → (b ≡ 10 → ⊥) → say_m m b ≡ []
@@ -82,7 +82,7 @@ module _ (l : List ℕ) (n : ℕ) (run : Run) (bare : breaks l ≡ 0) where
       run_append (at_row n run) l (10 ∷ [])
       ∙ ap (λ (m : Mach). run_m m (10 ∷ [])) (bare_run [] l n run bare)
       ∙ lf_run (holds l) n run
-      ∙ ap (λ (x : Row). at_row (n + 1) (run_after run x)) (row_lf l)
+      ∙ ap (λ (x : Option Row). at_row (n + 1) (run_after run x)) (row_lf l)
 
   pub row_say : say_all (at_row n run) (l ++ (10 ∷ [])) ≡ answer_text n run (row_of (unended l))
   row_say =
@@ -106,15 +106,15 @@ unfolding refusal_text step_text
 refused_text n = refl
 
 module _ (run : Run) (sound : undamaged run ≡ true) where
-  asked_run : (x : Row) → run_after run x ≡ (step_of run (step_in x)).run
-  asked_run Row.Other = sym (ap (λ (t : Stepped). t.run) (no_kind run sound))
-  asked_run (Row.Plan a b c d) = sym (ap (λ (t : Stepped). t.run) (no_kind run sound))
-  asked_run (Row.Step s) = refl
+  pub asked_run : (x : Option Row) → run_after run x ≡ (step_of run (step_in x)).run
+  asked_run None = sym (ap (λ (t : Stepped). t.run) (no_kind run sound))
+  asked_run (Some (Row.Plan a b c d)) = sym (ap (λ (t : Stepped). t.run) (no_kind run sound))
+  asked_run (Some (Row.Step s)) = refl
 
-  asked_say : (n : ℕ) (x : Row) → answer_text n run x ≡ step_text n (step_of run (step_in x)).answer
-  asked_say n Row.Other = refused_text n ∙ sym (ap (λ (t : Stepped). step_text n t.answer) (no_kind run sound))
-  asked_say n (Row.Plan a b c d) = refused_text n ∙ sym (ap (λ (t : Stepped). step_text n t.answer) (no_kind run sound))
-  asked_say n (Row.Step s) = refl
+  pub asked_say : (n : ℕ) (x : Option Row) → answer_text n run x ≡ step_text n (step_of run (step_in x)).answer
+  asked_say n None = refused_text n ∙ sym (ap (λ (t : Stepped). step_text n t.answer) (no_kind run sound))
+  asked_say n (Some (Row.Plan a b c d)) = refused_text n ∙ sym (ap (λ (t : Stepped). step_text n t.answer) (no_kind run sound))
+  asked_say n (Some (Row.Step s)) = refl
 
 -- ---- lines, each with its LF
 

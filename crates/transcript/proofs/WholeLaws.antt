@@ -6,31 +6,32 @@ use mathlib.Core.Path.{◌≡◌, refl}
 use lib.ListN.{length}
 use lib.Dec.{eqb, ltb}
 use borrow.Author.Tests.{eqb-false}
-use Rattle.transcript.specs.Names.{Fed, Phase, Planned, Row, Run}
+use Rattle.transcript.specs.Names.{Err, None, Ok, Option, Phase, Planned, Row, Run, Some, Unplanned}
 use Rattle.run.specs.Start.{start_of}
 use Rattle.run.specs.Undamaged.{undamaged}
 use Rattle.run.proofs.UndamagedLaws.{step_undamaged, start_undamaged}
 use Rattle.text.specs.Ends.{breaks}
-use Rattle.transcript.specs.Machine.{Held, Line, Over, Mach, short, row_in, head_in, start_phase, plan_phase, plan_run, next_phase, next_row, next_run, push, ended, step_m, run_m, held_of, mach_of, start_fed, sound_in, held_breaks, Whole, most_line}
+use Rattle.transcript.specs.Machine.{Held, Line, Over, Mach, short, row_in, head_in, start_phase, plan_phase, plan_run, next_phase, next_row, next_run, push, ended, step_m, run_m, held_of, mach_of, fresh, held_breaks, Whole, most_line}
+use Rattle.transcript.specs.Phases.{sound_in}
 use Rattle.transcript.specs.Rehearsal.{run_after}
 use Rattle.text.proofs.BreakLaws.{breaks_more}
 
 -- ---- a row
 
-start_sound : (p : Planned) (run : Run) → undamaged run ≡ true → sound_in (start_phase p) run ≡ true
+pub start_sound : (p : Planned) (run : Run) → undamaged run ≡ true → sound_in (start_phase p) run ≡ true
 start_sound (Err Unplanned.OutOfRange) run h = refl
 start_sound (Err Unplanned.TooSmall) run h = refl
 start_sound (Ok p) run h = h
 
-plan_sound : (x : Row) (run : Run) → sound_in (plan_phase x) (plan_run run x) ≡ true
-plan_sound Row.Other run = refl
-plan_sound (Row.Plan n k r b) run = start_sound (start_of n k r b).planned (start_of n k r b).run (start_undamaged n k r b)
-plan_sound (Row.Step s) run = refl
+plan_sound : (x : Option Row) (run : Run) → sound_in (plan_phase x) (plan_run run x) ≡ true
+plan_sound None run = refl
+plan_sound (Some (Row.Plan n k r b)) run = start_sound (start_of n k r b).planned (start_of n k r b).run (start_undamaged n k r b)
+plan_sound (Some (Row.Step s)) run = refl
 
-step_sound : (x : Row) (run : Run) → undamaged run ≡ true → undamaged (run_after run x) ≡ true
-step_sound Row.Other run h = h
-step_sound (Row.Plan n k r b) run h = h
-step_sound (Row.Step s) run h = step_undamaged run s h
+step_sound : (x : Option Row) (run : Run) → undamaged run ≡ true → undamaged (run_after run x) ≡ true
+step_sound None run h = h
+step_sound (Some (Row.Plan n k r b)) run h = h
+step_sound (Some (Row.Step s)) run h = step_undamaged run s h
 
 head_sound : (t : Bool) (run : Run) → sound_in (cond t Phase.Planning Phase.Ended) run ≡ true
 head_sound true run = refl
@@ -79,9 +80,6 @@ pub whole_at : (m₀ m : Mach) (l : List ℕ) → Whole m₀ → m ≡ run_m m�
 whole_at m₀ m l w e = rw e (whole_run m₀ l w)
 
 -- before the first byte
-fresh_whole : (line : List ℕ) → Whole (mach_of start_fed.kept line start_fed.run)
+pub fresh_whole : Whole (mach_of fresh)
 unfolding held_of
-fresh_whole line = (refl, none_held)
-
-pub whole_fresh : (f : Fed) (line : List ℕ) → f ≡ start_fed → Whole (mach_of f.kept line f.run)
-whole_fresh f line e = rw e (fresh_whole line)
+fresh_whole = (refl, none_held)

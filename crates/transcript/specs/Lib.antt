@@ -1,3 +1,4 @@
 pub mod Machine
 pub mod Names
+pub mod Phases
 pub mod Rehearsal

@@ -1,22 +1,19 @@
 -- The rehearsal as a machine that is fed bytes and says bytes: its state, one byte, several, and the input's end. No clause is its
 -- own: it says what Rehearsal.antt says.
-use Rattle.std.specs.Prelude.{ℕ, ◌+◌, ◌≤◌, Bool, true, false, cond, List, [], ◌∷◌, ◌++◌, ◌≡◌, eqb, leb, ltb, length, take}
-use Rattle.transcript.specs.Names.{Fed, Kept, Phase, Planned, Row, Run}
+use Rattle.std.specs.Prelude.{ℕ, ◌+◌, ◌≤◌, Bool, true, false, cond, List, [], ◌∷◌, ◌++◌, ◌≡◌, eqb, leb, ltb, length, take, replicate}
+use Rattle.transcript.specs.Names.{Err, None, Ok, Option, Phase, Planned, Rehearsal, Row, Run, Some, Unplanned}
+use mathlib.Core.Path.{refl}
 use Rattle.run.specs.Start.{start_of}
-use Rattle.run.specs.Undamaged.{undamaged}
 use Rattle.text.specs.Ends.{unended, breaks}
 use Rattle.text.specs.Rows.{most_bytes, row_of, is_header}
-use Rattle.print.specs.Put.{put}
+use Rattle.print.specs.Put.{Wrote}
 use Rattle.print.specs.Rows.{plan_text, refusal_text, no_header_text, head_text, room}
+use Rattle.transcript.specs.Phases.{sound_in}
 use Rattle.transcript.specs.Rehearsal.{answer_text, run_after}
 
 -- the bytes that are kept of a row: the longest row, and a CR
 abbrev pub most_line : ℕ
 most_line = most_bytes + 1
-
--- the bytes of a row's array: these, and a CR and an LF to end it with
-abbrev pub line_room : ℕ
-line_room = most_line + 2
 
 -- the bytes of a row so far: at most `most_line`, or more than that
 pub data Held : Type 0 where
@@ -36,13 +33,14 @@ abbrev pub short : Held → Held
 short (Line l) = Line (unended l)
 short Over = Over
 
-abbrev pub pick_held : Bool → List ℕ → Held
-pick_held true l = Over
-pick_held false l = Line l
+-- a row that is at hand, or one that is too long
+abbrev pub pick_held : Option (List ℕ) → Held
+pick_held (Some l) = Line l
+pick_held None = Over
 
-abbrev pub row_in : Held → Row
+abbrev pub row_in : Held → Option Row
 row_in (Line l) = row_of l
-row_in Over = Row.Other
+row_in Over = None
 
 abbrev pub head_in : Held → Bool
 head_in (Line l) = is_header l
@@ -53,20 +51,20 @@ start_phase (Err Unplanned.OutOfRange) = Phase.Ended
 start_phase (Err Unplanned.TooSmall) = Phase.Ended
 start_phase (Ok p) = Phase.Running
 
-abbrev pub plan_phase : Row → Phase
-plan_phase Row.Other = Phase.Ended
-plan_phase (Row.Plan n k r b) = start_phase (start_of n k r b).planned
-plan_phase (Row.Step s) = Phase.Ended
+abbrev pub plan_phase : Option Row → Phase
+plan_phase None = Phase.Ended
+plan_phase (Some (Row.Plan n k r b)) = start_phase (start_of n k r b).planned
+plan_phase (Some (Row.Step s)) = Phase.Ended
 
-abbrev pub plan_run : Run → Row → Run
-plan_run run Row.Other = run
-plan_run run (Row.Plan n k r b) = (start_of n k r b).run
-plan_run run (Row.Step s) = run
+abbrev pub plan_run : Run → Option Row → Run
+plan_run run None = run
+plan_run run (Some (Row.Plan n k r b)) = (start_of n k r b).run
+plan_run run (Some (Row.Step s)) = run
 
-abbrev pub plan_say : ℕ → Row → List ℕ
-plan_say row Row.Other = refusal_text row
-plan_say row (Row.Plan n k r b) = plan_text row (start_of n k r b).planned
-plan_say row (Row.Step s) = refusal_text row
+abbrev pub plan_say : ℕ → Option Row → List ℕ
+plan_say row None = refusal_text row
+plan_say row (Some (Row.Plan n k r b)) = plan_text row (start_of n k r b).planned
+plan_say row (Some (Row.Step s)) = refusal_text row
 
 -- after a row: the phase, the number of the next row, the run, and what is said
 unfoldable pub next_phase : Phase → Held → Phase
@@ -98,6 +96,10 @@ say_line Phase.Ended n run h = []
 unfoldable pub push : Held → ℕ → Held
 push (Line l) b = cond (ltb (length l) most_line) (Line (l ++ (b ∷ []))) Over
 push Over b = Over
+
+-- the state after the row that is held is answered
+unfoldable pub answered : Mach → Mach
+answered m = record { held = Line []; phase = next_phase m.phase m.held; row = next_row m.phase m.row; run = next_run m.phase m.run m.held }
 
 -- the state after a row
 unfoldable pub ended : Mach → Mach
@@ -163,22 +165,15 @@ said_by m (c ∷ cs) = say_all m c ++ said_by (run_m m c) cs
 unfoldable pub held_of : ℕ → List ℕ → Held
 held_of n line = cond (leb n most_line) (Line (take n line)) Over
 
-abbrev pub mach_of : Kept → List ℕ → Run → Mach
-mach_of k line run = record { held = held_of k.len line; phase = k.phase; row = k.row; run = run }
+abbrev pub mach_of : Rehearsal → Mach
+mach_of r = record { held = held_of r.len r.line; phase = r.phase; row = r.row; run = r.run }
 
-abbrev pub start_fed : Fed
-start_fed = record { kept = record { len = 0; at = 0; phase = Phase.Header; row = 1 }; run = (start_of 2 0 0 0).run }
+abbrev pub fresh : Rehearsal
+fresh = record { line = replicate most_line 0; len = 0; phase = Phase.Header; row = 1; run = (start_of 2 0 0 0).run; sound = refl }
 
 -- where a step row begins
 abbrev pub at_row : ℕ → Run → Mach
 at_row n run = record { held = Line []; phase = Phase.Running; row = n; run = run }
-
--- where steps are due, the run is undamaged: so that no step is checked again
-abbrev pub sound_in : Phase → Run → Bool
-sound_in Phase.Header run = true
-sound_in Phase.Planning run = true
-sound_in Phase.Running run = undamaged run
-sound_in Phase.Ended run = true
 
 -- the bytes held of a row have no LF
 abbrev pub held_breaks : Held → ℕ
@@ -189,25 +184,24 @@ held_breaks Over = 0
 abbrev pub Whole : Mach → Type 0
 Whole m = (sound_in m.phase m.run ≡ true) × (held_breaks m.held ≡ 0)
 
-abbrev pub is_running : Phase → Bool
-is_running Phase.Header = false
-is_running Phase.Planning = false
-is_running Phase.Running = true
-is_running Phase.Ended = false
-
 abbrev pub at_step : Phase → ℕ → Bool
 at_step Phase.Header len = false
 at_step Phase.Planning len = false
 at_step Phase.Running len = eqb len 0
 at_step Phase.Ended len = false
 
--- a row in phase p is answered: the buffer, d before, is e after
-abbrev pub Acted : Phase → Kept → Run → Held → List ℕ → List ℕ → Fed → Type 0
-Acted p k run h d e r =
-    (r.kept.len ≡ 0)
-    × (r.kept.phase ≡ next_phase p h)
-    × (r.kept.row ≡ next_row p k.row)
-    × (r.run ≡ next_run p run h)
-    × (e ≡ put d k.at (say_line p k.row run h))
-    × (r.kept.at ≡ k.at + length (say_line p k.row run h))
-    × (r.kept.at ≤ k.at + room)
+-- whether anything is said of what follows
+abbrev pub goes_on : Phase → Bool
+goes_on Phase.Header = true
+goes_on Phase.Planning = true
+goes_on Phase.Running = true
+goes_on Phase.Ended = false
+
+-- a row h is answered in phase p, by the rehearsal r, which is then r': the buffer, d before, is e after, and its text ends at `end`
+abbrev pub Acted : Phase → Held → Rehearsal → Rehearsal → List ℕ → ℕ → List ℕ → ℕ → Type 0
+Acted p h r r' d at e end =
+    (r'.phase ≡ next_phase p h)
+    × (r'.row ≡ next_row p r.row)
+    × (r'.run ≡ next_run p r.run h)
+    × Wrote d at (say_line p r.row r.run h) e end
+    × (end ≤ at + room)

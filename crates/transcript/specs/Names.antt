@@ -1,13 +1,14 @@
 -- The types that this crate speaks of, under one roof.
-pub use Rattle.plan.specs.declared.Planned.{Planned}
+pub use Rattle.std.specs.Prelude.{Option, Some, None, Ok, Err}
+pub use Rattle.plan.specs.Names.{Planned}
+pub use Rattle.plan.specs.declared.Unplanned.{Unplanned}
 pub use Rattle.types.specs.declared.answer.Refusal.{Refusal}
-pub use Rattle.types.specs.declared.answer.Answer.{Answer}
+pub use Rattle.types.specs.Names.{Answer}
 pub use Rattle.types.specs.declared.step.Step.{Step}
 pub use Rattle.run.specs.declared.Run.{Run}
-pub use Rattle.run.specs.declared.Started.{Started}
-pub use Rattle.run.specs.declared.Stepped.{Stepped}
+pub use Rattle.run.specs.declared.fresh.Started.{Started}
+pub use Rattle.run.specs.Names.{Stepped}
 pub use Rattle.text.specs.declared.row.Row.{Row}
-pub use Rattle.turns.specs.declared.turn.Went.{Went}
+pub use Rattle.turns.specs.declared.Went.{Went}
 pub use Rattle.transcript.specs.declared.Phase.{Phase}
-pub use Rattle.transcript.specs.declared.Kept.{Kept}
-pub use Rattle.transcript.specs.declared.Fed.{Fed}
+pub use Rattle.transcript.specs.declared.Rehearsal.{Rehearsal}

@@ -1,7 +1,7 @@
 -- The rehearsal, from all bytes of the input to all bytes of the output: clauses S16 and S17 of docs/SCOPE.md. A row is the list
 -- of its bytes.
 use Rattle.std.specs.Prelude.{ℕ, ◌+◌, cond, List, [], ◌∷◌, ◌++◌, eqb}
-use Rattle.transcript.specs.Names.{Planned, Row, Run}
+use Rattle.transcript.specs.Names.{Err, None, Ok, Option, Planned, Row, Run, Some, Unplanned}
 use Rattle.run.specs.Start.{start_of}
 use Rattle.run.specs.Steps.{step_of}
 use Rattle.text.specs.Ends.{unended}
@@ -19,16 +19,16 @@ rows_from p [] = last_row p
 rows_from p (b ∷ l) = cond (eqb b 10) (unended p ∷ rows_from [] l) (rows_from (p ++ (b ∷ [])) l)
 
 -- S16.9: a step is taken; S16.10: a row of another form, and a second plan, is answered 2
-abbrev pub answer_text : ℕ → Run → Row → List ℕ
-answer_text n run Row.Other = refusal_text n
-answer_text n run (Row.Plan a b c d) = refusal_text n
-answer_text n run (Row.Step s) = step_text n (step_of run s).answer
+abbrev pub answer_text : ℕ → Run → Option Row → List ℕ
+answer_text n run None = refusal_text n
+answer_text n run (Some (Row.Plan a b c d)) = refusal_text n
+answer_text n run (Some (Row.Step s)) = step_text n (step_of run s).answer
 
 -- S16.9: the step changes the run; S16.10: a row of another form changes nothing
-abbrev pub run_after : Run → Row → Run
-run_after run Row.Other = run
-run_after run (Row.Plan a b c d) = run
-run_after run (Row.Step s) = (step_of run s).run
+abbrev pub run_after : Run → Option Row → Run
+run_after run None = run
+run_after run (Some (Row.Plan a b c d)) = run
+run_after run (Some (Row.Step s)) = (step_of run s).run
 
 -- S17.2: every row has its number, one that is answered 2 as well
 unfoldable pub steps_text : ℕ → Run → List (List ℕ) → List ℕ
@@ -42,11 +42,11 @@ after_plan (Err Unplanned.TooSmall) run ls = []
 after_plan (Ok p) run ls = steps_text 2 run ls
 
 -- S16.8: the plan; a row of another form is answered 2, which is a refused plan
-abbrev pub plan_row_text : Row → List (List ℕ) → List ℕ
-plan_row_text Row.Other ls = refusal_text 1
-plan_row_text (Row.Plan n k r b) ls =
+abbrev pub plan_row_text : Option Row → List (List ℕ) → List ℕ
+plan_row_text None ls = refusal_text 1
+plan_row_text (Some (Row.Plan n k r b)) ls =
     plan_text 1 (start_of n k r b).planned ++ after_plan (start_of n k r b).planned (start_of n k r b).run ls
-plan_row_text (Row.Step s) ls = refusal_text 1
+plan_row_text (Some (Row.Step s)) ls = refusal_text 1
 
 -- S17.10: nothing of nothing
 abbrev pub after_header : List (List ℕ) → List ℕ

@@ -1,140 +1,102 @@
 // A row is answered, by the phase that it comes in.
-ghost use Rattle.std.specs.Prelude.{◌≡◌, true, [], ◌≤◌, ◌<◌, ◌+◌, ◌^◌, length};
-ghost use Rattle.print.specs.Rows.{room};
-ghost use Rattle.transcript.specs.Machine.{Acted, is_running, pick_held, start_phase};
+ghost use Rattle.std.specs.Prelude.{◌≡◌};
+ghost use Rattle.transcript.specs.Machine.{start_phase};
 
-use super::line::{head_in, row_in};
-use super::{Fed, Kept, Phase};
+use super::{Phase, Rehearsal};
 use plan::Planned;
-use print::{put_head, put_no_header, put_plan, put_refusal};
-use run::{Run, start};
-use text::Row;
+use print::{put_head, put_no_header, put_plan, put_refusal, put_step};
+use run::start;
+use text::{Row, step_of};
 
-fn start_phase(p: Planned) -> Phase
-    ensures { result ≡ start_phase p }
+fn start_phase(p: &Planned) -> Phase
+    ensures { result ≡ start_phase p.now }
 {
     match p {
-        Planned::OutOfRange => Phase::Ended,
-        Planned::TooSmall => Phase::Ended,
-        Planned::Accepted(_) => Phase::Running,
+        Ok(_) => Phase::Running,
+        Err(_) => Phase::Ended,
     }
 }
 
-// The header row.
-fn head_row(over: bool, l: &[u8], out: &mut [u8], kept: Kept, run: Run) -> Fed
-    requires { kept.at + room + room ≤ length out.old }
-    ensures { Acted Phase.Header kept run (pick_held over l.now) out.old out.new result }
-{
-    let at = put_head(out, kept.at);
-    if head_in(over, l) {
-        return Fed {
-            kept: Kept {
-                len: 0,
-                at: at,
-                phase: Phase::Planning,
-                row: kept.row,
-            },
-            run: run,
-        };
-    }
-    let end = put_no_header(out, at);
-    Fed {
-        kept: Kept {
-            len: 0,
-            at: end,
-            phase: Phase::Ended,
-            row: kept.row,
-        },
-        run: run,
-    }
-}
+#[tactic(auto, using(crate::proofs::AnswerLaws::in_answers), unfolding(crate::specs::Machine::next_phase, crate::specs::Machine::next_row, crate::specs::Machine::next_run, crate::specs::Machine::say_line, crate::specs::Machine::answered))]
+impl Rehearsal {
+    ghost use Rattle.std.specs.Prelude.{◌≤◌, ◌<◌, ◌+◌, ◌^◌, length};
+    ghost use Rattle.print.specs.Put.{Wrote};
+    ghost use Rattle.print.specs.Rows.{room};
+    ghost use Rattle.transcript.specs.Machine.{Acted, answered, held_of, mach_of, say_line};
 
-// A row that is no plan, where the plan stands.
-fn no_plan(out: &mut [u8], kept: Kept, run: Run) -> Fed
-    requires room_in_bounds { kept.at + room ≤ length out.old }
-    requires row_bound { kept.row + 1 < 2 ^ 64 }
-    ensures { Acted Phase.Planning kept run (pick_held true []) out.old out.new result }
-{
-    let row = kept.row;
-    let end = put_refusal(out, kept.at, row);
-    Fed {
-        kept: Kept {
-            len: 0,
-            at: end,
-            phase: Phase::Ended,
-            row: row + 1,
-        },
-        run: run,
+    // The header row.
+    fn head_row(&mut self, out: &mut [u8], at: usize) -> usize
+        requires { at + room + room ≤ length out.old }
+        ensures { Acted Phase.Header (held_of self.old.len self.old.line) self.old self.new out.old at out.new result }
+    {
+        let end = put_head(out, at);
+        if self.is_header() {
+            self.phase = Phase::Planning;
+            return end;
+        }
+        self.phase = Phase::Ended;
+        put_no_header(out, end)
     }
-}
 
-// The plan row.
-fn plan_row(over: bool, l: &[u8], out: &mut [u8], kept: Kept, run: Run) -> Fed
-    requires room_in_bounds { kept.at + room ≤ length out.old }
-    requires row_bound { kept.row + 1 < 2 ^ 64 }
-    ensures { Acted Phase.Planning kept run (pick_held over l.now) out.old out.new result }
-{
-    match row_in(over, l) {
-        Row::Other => no_plan(out, kept, run),
-        Row::Plan(n, k, r, b) => {
-            let s = start(n, k, r, b);
-            let p = s.planned;
-            let fresh = s.run;
-            let row = kept.row;
-            let end = put_plan(out, kept.at, row, p);
-            Fed {
-                kept: Kept {
-                    len: 0,
-                    at: end,
-                    phase: start_phase(p),
-                    row: row + 1,
-                },
-                run: fresh,
+    // The plan row, or a row that is no plan, where the plan stands.
+    fn plan_row(&mut self, out: &mut [u8], at: usize) -> usize
+        requires answer_fits { at + room ≤ length out.old }
+        requires row_fits { self.old.row + 1 < 2 ^ 64 }
+        ensures { Acted Phase.Planning (held_of self.old.len self.old.line) self.old self.new out.old at out.new result }
+    {
+        let row = self.row;
+        self.row += 1;
+        match self.says() {
+            Some(Row::Plan(n, k, r, b)) => {
+                let started = start(n, k, r, b);
+                self.run = started.run;
+                self.phase = start_phase(&started.planned);
+                put_plan(out, at, row, started.planned)
+            }
+            _ => {
+                self.phase = Phase::Ended;
+                put_refusal(out, at, row)
             }
         }
-        Row::Step(_) => no_plan(out, kept, run),
     }
-}
 
-// A row that is no step, where a step stands.
-fn no_step(out: &mut [u8], kept: Kept, run: Run) -> Fed
-    requires room_in_bounds { kept.at + room ≤ length out.old }
-    requires row_bound { kept.row + 1 < 2 ^ 64 }
-    ensures { Acted Phase.Running kept run (pick_held true []) out.old out.new result }
-{
-    let row = kept.row;
-    let end = put_refusal(out, kept.at, row);
-    Fed {
-        kept: Kept {
-            len: 0,
-            at: end,
-            phase: Phase::Running,
-            row: row + 1,
-        },
-        run: run,
+    // A row where steps are due. One that is no step is a step of no known kind to the run: it is answered 2, and changes nothing.
+    fn step_row(&mut self, out: &mut [u8], at: usize) -> usize
+        requires answer_fits { at + room ≤ length out.old }
+        requires row_fits { self.old.row + 1 < 2 ^ 64 }
+        requires due { self.old.phase ≡ Phase.Running }
+        ensures { Acted Phase.Running (held_of self.old.len self.old.line) self.old self.new out.old at out.new result }
+    {
+        let step = step_of(self.says());
+        let answer = self.run.go(step);
+        let row = self.row;
+        self.row += 1;
+        put_step(out, at, row, answer)
     }
-}
 
-// A row without its end; over: it is longer than what is handed over. Where steps are due, only such a row comes here.
-pub fn act(over: bool, l: &[u8], out: &mut [u8], kept: Kept, run: Run) -> Fed
-    requires over_value { is_running kept.phase ≡ true → over ≡ true }
-    requires room_in_bounds { kept.at + room + room ≤ length out.old }
-    requires row_bound { kept.row + 1 < 2 ^ 64 }
-    ensures { Acted kept.phase kept run (pick_held over l.now) out.old out.new result }
-{
-    let p = kept.phase;
-    match p {
-        Phase::Header => head_row(over, l, out, kept, run),
-        Phase::Planning => plan_row(over, l, out, kept, run),
-        Phase::Running => no_step(out, kept, run),
-        Phase::Ended => Fed {
-            kept: Kept {
-                len: 0,
-                at: kept.at,
-                phase: Phase::Ended,
-                row: kept.row,
-            },
-            run: run,
-        },
+    fn by_phase(&mut self, out: &mut [u8], at: usize) -> usize
+        requires answer_fits { at + room + room ≤ length out.old }
+        requires row_fits { self.old.row + 1 < 2 ^ 64 }
+        ensures { Acted self.old.phase (held_of self.old.len self.old.line) self.old self.new out.old at out.new result }
+    {
+        match self.phase {
+            Phase::Header => self.head_row(out, at),
+            Phase::Planning => self.plan_row(out, at),
+            Phase::Running => self.step_row(out, at),
+            Phase::Ended => at,
+        }
+    }
+
+    // The row without its end is answered, and the next one begins.
+    pub(super) fn act(&mut self, out: &mut [u8], at: usize) -> usize
+        requires answer_fits { at + room + room ≤ length out.old }
+        requires row_fits { self.old.row + 1 < 2 ^ 64 }
+        ensures state { mach_of self.new ≡ answered (mach_of self.old) }
+        ensures said { Wrote out.old at (say_line self.old.phase self.old.row self.old.run (held_of self.old.len self.old.line)) out.new result }
+        ensures most { result ≤ at + room }
+    {
+        let end = self.by_phase(out, at);
+        self.len = 0;
+        end
     }
 }

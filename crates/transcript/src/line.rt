@@ -1,33 +1,55 @@
-// A row's bytes: the array that has them, where they end, and what they say.
-ghost use Rattle.std.specs.Prelude.{◌≡◌, length};
-ghost use Rattle.transcript.specs.Machine.{line_room, row_in, head_in, pick_held};
+// A row's bytes so far, and what they say.
+use super::{MOST_LINE, Rehearsal};
+use text::{Row, is_header, parse, trim};
 
-use super::LINE_ROOM;
-use text::Row;
+#[tactic(auto, using(crate::proofs::MachineLaws::held_more, crate::proofs::MachineLaws::held_full, crate::proofs::MachineLaws::held_short, crate::proofs::MachineLaws::held_over), unfolding(crate::specs::Machine::held_of))]
+impl Rehearsal {
+    ghost use Rattle.std.specs.Prelude.{◌≡◌, option_copied};
+    ghost use Rattle.transcript.specs.Machine.{held_of, mach_of, pick_held, push as Machine·push, row_in, head_in, short};
 
-// Says how long a row's array is, for a proof that has it only as an array.
-pub fn full(line: &[u8; LINE_ROOM]) -> usize
-    ensures { length line.now ≡ line_room }
-{
-    let s: &[u8] = line;
-    s.len()
-}
-
-// What a row says; over: it is longer than what is handed over.
-pub fn row_in(over: bool, l: &[u8]) -> Row
-    ensures { result ≡ row_in (pick_held over l.now) }
-{
-    if over {
-        return Row::Other;
+    // The bytes; None where they are too many.
+    fn held(&self) -> Option<&[u8]>
+        ensures { pick_held (option_copied result) ≡ held_of self.now.len self.now.line }
+    {
+        if MOST_LINE < self.len {
+            return None;
+        }
+        Some(&self.line[..self.len])
     }
-    text::parse(l)
-}
 
-pub fn head_in(over: bool, l: &[u8]) -> bool
-    ensures { result ≡ head_in (pick_held over l.now) }
-{
-    if over {
-        return false;
+    pub(super) fn is_header(&self) -> bool
+        ensures { result ≡ head_in (held_of self.now.len self.now.line) }
+    {
+        match self.held() {
+            Some(l) => is_header(l),
+            None => false,
+        }
     }
-    text::is_header(l)
+
+    pub(super) fn says(&self) -> Option<Row>
+        ensures { result ≡ row_in (held_of self.now.len self.now.line) }
+    {
+        parse(self.held()?)
+    }
+
+    // A byte that is no LF.
+    pub(super) fn push(&mut self, b: u8)
+        ensures { mach_of self.new ≡ record (mach_of self.old) { held = Machine·push (held_of self.old.len self.old.line) b } }
+    {
+        if self.len < MOST_LINE {
+            self.line[self.len] = b;
+            self.len += 1;
+        } else {
+            self.len = MOST_LINE + 1;
+        }
+    }
+
+    // One CR belongs to the row's end, where an LF comes after it.
+    pub(super) fn shorten(&mut self)
+        ensures { mach_of self.new ≡ record (mach_of self.old) { held = short (held_of self.old.len self.old.line) } }
+    {
+        if self.len <= MOST_LINE {
+            self.len = trim(&self.line[..self.len]).len();
+        }
+    }
 }

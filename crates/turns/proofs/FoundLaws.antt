@@ -1,6 +1,6 @@
 -- A row that was found between two rows: its answer has room, and after it what held holds again. Assumes nothing.
-use Rattle.std.proofs.Common.{ℕ, ◌+◌, ◌-◌, ◌^◌, ◌≤◌, ◌<◌, ◌≡◌, List, length, drop, sym, subst, arith}
-use Rattle.turns.specs.Names.{Found, None, Option, Run, Some, Step, Stepped}
+use Rattle.std.proofs.Common.{ℕ, ◌+◌, ◌-◌, ◌^◌, ◌≤◌, ◌<◌, ◌≡◌, List, length, drop, subst, arith}
+use Rattle.turns.specs.Names.{Found, None, Option, Run, Some, Stepped}
 use Rattle.run.specs.Steps.{step_of}
 use Rattle.text.specs.Ends.{Finds, breaks}
 use Rattle.print.specs.Put.{Wrote}

@@ -1,7 +1,7 @@
 -- `is_ruled` meets its contract. Assumes nothing.
 use Rattle.std.proofs.Common.{rules, ◌≡◌, sym, ◌∙◌, true}
 use Rattle.std.specs.Result.{result_eq}
-use Rattle.plan.specs.Names.{Err, Ok, Plan, Planned, Unplanned}
+use Rattle.plan.specs.Names.{Ok, Plan, Planned}
 use Rattle.plan.specs.contracts.PlanPartialEq.TheImpl.{eq-value as same-plan}
 use Rattle.plan.specs.contracts.UnplannedPartialEq.TheImpl.{eq-value as same-refusal}
 use Rattle.plan.proofs.RuledLaws.{ruled_if}

@@ -1,4 +1,3 @@
--- `speed_check` is safe: no more checks pass than were made. Assumes nothing.
 use Rattle.std.proofs.Common.{◌≤◌}
 use Rattle.speed.proofs.speed_check.Given as goal
 

@@ -1,9 +1,11 @@
 -- What all turns read and wrote, and the input's end. Assumes nothing.
+use Rattle.std.proofs.Common.{ap}
+use Rattle.transcript.specs.declared.Rehearsal.{Rehearsal}
+use Rattle.transcript.specs.Machine.{mach_of}
 use Rattle.stream.proofs.Moving.{rehearsed}
 use Rattle.stream.proofs.all_bytes.Goals as goal
 
 pub returns : goal.returns
 returns g c =
-    rehearsed _ _ _ _ _ _ _ _ c.all_turns-t.result.kept.at c.finish-end.result c.all_turns-t.result.sound c.write_all.result _ c.in_ok-t.was
-    c.all_turns-t.ensures.at_value.0 c.all_turns-t.ensures.turned c.finish-end.ensures.out_after c.finish-end.ensures.value.0
-    c.write_all.ensures.bytes
+    rehearsed _ _ _ _ _ _ _ _ _ _ c.write_all.result (ap (λ (r : Rehearsal). mach_of r) c.new-rehearsal.ensures) c.in_ok-all_turns.ensures.turned c.finish-end.ensures.out
+    c.finish-end.ensures.end.0 c.write_all.ensures.bytes

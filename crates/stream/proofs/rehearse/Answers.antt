@@ -10,4 +10,4 @@ pub slice_bounds-all_bytes-end-2 : goal.slice_bounds-all_bytes-end-2
 slice_bounds-all_bytes-end-2 g c = sym (length-replicate {0} {A = ℕ} out_room 0)
 
 pub all_bytes-requires : goal.all_bytes-requires
-all_bytes-requires g c = record { part_len_bound = omega arith; out_len = length-replicate {0} {A = ℕ} out_room 0 }
+all_bytes-requires g c = record { part_fits = omega arith; out_fits = length-replicate {0} {A = ℕ} out_room 0 }

@@ -1,6 +1,6 @@
 -- `steps` meets its contract: what holds between two rows holds after each row, and at the end it is the contract. Assumes nothing.
 use Rattle.std.proofs.Common.{arith}
-use Rattle.turns.proofs.TakingLaws.{Taking, taking_none, taking_end}
+use Rattle.turns.proofs.TakingLaws.{taking_none, taking_end}
 use Rattle.turns.proofs.FoundLaws.{last, shorter, has_room, next_row, next}
 use Rattle.turns.proofs.steps.Goals as goal
 

@@ -1,18 +1,23 @@
--- `first_free` meets its contract. Assumes nothing.
-use Rattle.std.proofs.Common.{rules, tests, arith}
-use Rattle.std.proofs.lemmas.Iterator.{YieldsList-from_slice}
-use Rattle.std.proofs.lemmas.Iterator.Search.{position_from_yields_List}
-use Rattle.run.proofs.GatherLaws.{free, first_found, first_none}
+-- `first_free` meets its contract: no slot that was passed is free. Assumes nothing.
+use Rattle.std.proofs.Common.{arith, refl, sym, ◌∙◌}
+use Rattle.run.proofs.GatherLaws.{first_end, first_here, first_next}
 use Rattle.run.proofs.Run.first_free.Goals as goal
 
-pub returns-clause-free : goal.returns-clause-free
-returns-clause-free c =
-    let l = c.args.self.now.slots in
-    let found = first_found l _ (position_from_yields_List free _ _ _ c.position.ensures.ran (YieldsList-from_slice l cc) (λ x b q k. search (rules, tests))) _ c.in_ok-j.was in
-    (found.0, omega arith)
+pub loop-j-init : goal.loop-j-init
+loop-j-init c = (refl, refl)
 
-pub returns-in_err-j-clause-full : goal.returns-in_err-j-clause-full
-returns-in_err-j-clause-full c =
-    let l = c.args.self.now.slots in
-    let full = first_none l _ (position_from_yields_List free _ _ _ c.position.ensures.ran (YieldsList-from_slice l cc) (λ x b q k. search (rules, tests))) c.in_err-j.was in
-    rw c.from_residual.ensures (omega arith)
+pub loop-j-preserved : goal.loop-j-preserved
+loop-j-preserved c =
+    (c.loop-j.invariant.0, c.loop-j.invariant.1 ∙ first_next c.args.self.now.slots c.loop-j.j c.loop-j.j (sym c.is_empty.ensures ∙ c.if-is_empty.false))
+
+pub returns-after-loop-j-clause-free : goal.returns-after-loop-j-clause-free
+returns-after-loop-j-clause-free c = rw c.loop-j.invariant.0 tt
+
+pub returns-after-loop-j-clause-full : goal.returns-after-loop-j-clause-full
+returns-after-loop-j-clause-full c =
+    let end = first_end c.args.self.now.slots c.loop-j.j (omega arith) in
+    rw c.loop-j.invariant.0 (omega (arith, end, c.loop-j.invariant.1))
+
+pub returns-then-is_empty-clause-free : goal.returns-then-is_empty-clause-free
+returns-then-is_empty-clause-free c =
+    (c.loop-j.invariant.1 ∙ first_here c.args.self.now.slots c.loop-j.j c.loop-j.j (sym c.is_empty.ensures ∙ c.if-is_empty.true), omega arith)

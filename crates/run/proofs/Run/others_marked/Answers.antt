@@ -1,9 +1,9 @@
 -- `others_marked` meets its contract. Assumes nothing.
-use Rattle.std.proofs.Common.{rules, tests, arith, ◌≡◌, ℕ, length, sym, ◌∙◌}
+use Rattle.std.proofs.Common.{rules, tests, ◌≡◌, length, ◌∙◌}
 use Rattle.std.proofs.lemmas.Iterator.{YieldsList-from_slice}
 use Rattle.std.proofs.lemmas.Iterator.Consumers.{YieldsList-from_enumerate, YieldsList-from_filter, count_from_yields_List}
 use Rattle.std.specs.List.{filter, enumerate_from}
-use Rattle.run.proofs.GatherLaws.{other, others_are, others_few}
+use Rattle.run.proofs.GatherLaws.{other, others_are}
 use Rattle.run.proofs.Run.others_marked.Goals as goal
 
 counted : (c : goal.After-count) → c.count.result ≡ length (filter (other c.args.p) (enumerate_from 0 c.args.self.now.cabinets))
