@@ -36,7 +36,7 @@ impl Rehearsal {
         requires row_fits { self.old.row + 1 < 2 ^ 64 }
         ensures state { mach_of self.new ≡ step_m (mach_of self.old) b }
         ensures said { Wrote out.old at (say_m (mach_of self.old) b) out.new result }
-        ensures least { (result ≤ at + room) × (self.new.row ≤ self.old.row + 1) }
+        ensures most { (result ≤ at + room) × (self.new.row ≤ self.old.row + 1) }
     {
         let ends = b == b'\n';
         if ends {

@@ -13,8 +13,8 @@ returns-then-ends-clause-said c =
     let e = say_lf (mach_of c.args.self.now) (mach_of c.shorten.new.self) (mach_of c.act.new.self) c.args.b c.if-ends.true c.shorten.ensures in
     rw (← e) c.act.ensures.said
 
-pub returns-then-ends-clause-least : goal.returns-then-ends-clause-least
-returns-then-ends-clause-least c =
+pub returns-then-ends-clause-most : goal.returns-then-ends-clause-most
+returns-then-ends-clause-most c =
     (c.act.ensures.most, row_lf (mach_of c.args.self.now) (mach_of c.shorten.new.self) (mach_of c.act.new.self) c.args.b c.shorten.ensures c.act.ensures.state)
 
 pub returns-clause-state : goal.returns-clause-state
