@@ -69,7 +69,7 @@ pub heads_fit : length (head_text ++ no_header_text) ≡ 62
 unfolding head_text no_header_text row_text decimal digits_by
 heads_fit = refl
 
-row_grows : (p : Phase) (n : ℕ) → next_row p n ≤ n + 1
+pub row_grows : (p : Phase) (n : ℕ) → next_row p n ≤ n + 1
 unfolding next_row
 row_grows Phase.Header n = omega arith
 row_grows Phase.Planning n = omega arith

@@ -31,6 +31,7 @@ impl Rehearsal {
     }
 
     // One byte. LF, and nothing else, ends a row.
+    #[tactic(auto, using(crate::proofs::MachineLaws::row_grows, print::proofs::PutLaws::put_none), unfolding(crate::specs::Machine::step_m, crate::specs::Machine::say_m, crate::specs::Machine::answered, crate::specs::Machine::ended))]
     fn byte(&mut self, b: u8, out: &mut [u8], at: usize) -> usize
         requires answer_fits { at + room + room ≤ length out.old }
         requires row_fits { self.old.row + 1 < 2 ^ 64 }
