@@ -48,6 +48,7 @@ impl Rehearsal {
         at
     }
 
+    #[tactic(auto, using(crate::proofs::MachineLaws::in_part))]
     // The bytes of s up to where a step row begins, or all: how many they are, and where the buffer's text ends.
     fn lead(&mut self, s: &[u8], out: &mut [u8], at: usize) -> (usize, usize)
         requires answers_fit { at + room * length s.now + room ≤ length out.old }
@@ -68,6 +69,7 @@ impl Rehearsal {
     }
 
     // Bytes without LF.
+    #[tactic(auto, using(crate::proofs::MachineLaws::run_none, crate::proofs::MachineLaws::run_next, crate::proofs::RowLaws::no_lf), unfolding(crate::specs::Machine::step_m))]
     fn hold(&mut self, s: &[u8])
         requires { breaks s.now ≡ 0 }
         ensures state { mach_of self.new ≡ run_m (mach_of self.old) s.now }

@@ -14,6 +14,7 @@ impl Rehearsal {
         self.phase != Phase::Ended
     }
 
+    #[tactic(auto, using(print::proofs::PutLaws::put_none, crate::proofs::MachineLaws::end_none, crate::proofs::MachineLaws::end_held, crate::proofs::MachineLaws::end_header))]
     // The input's end: a row that has no LF, or an input with no byte. Answers where the buffer's text ends.
     pub fn finish(&mut self, out: &mut [u8], at: usize) -> usize
         requires answer_fits { at + room + room ≤ length out.old }
