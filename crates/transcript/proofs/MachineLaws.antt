@@ -60,6 +60,9 @@ pub held_over : (n : ℕ) (l : List ℕ) → most_line < n → held_of n l ≡ s
 unfolding held_of
 held_over n l h = rw (lt-leb _ _ h) refl
 
+-- what the code needs of these, for a byte that is held and for a row's end
+pub ruleset in_row = (held_more, held_full, held_short, held_over)
+
 pub held_none : (l : List ℕ) → held_of 0 l ≡ Line []
 unfolding held_of
 held_none l = refl
@@ -156,3 +159,6 @@ end_header p n run h e = rw e refl
 
 pub end_none : (p : Phase) (n : ℕ) (run : Run) (k : ℕ) (l : List ℕ) → k ≡ 0 → (p ≡ Phase.Header → ⊥) → [] ≡ end_by p n run (held_of k l)
 end_none p n run k l z e = rw (z, held_none l) (end_empty p n run e)
+
+-- what the code needs at the input's end
+pub ruleset at_end = (put_none, end_none, end_held, end_header)

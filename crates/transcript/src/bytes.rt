@@ -4,7 +4,7 @@ use run::start;
 use turns::steps;
 
 impl Rehearsal {
-    ghost use Rattle.std.specs.Prelude.{◌≡◌, true, ◌≤◌, ◌<◌, ◌+◌, ◌*◌, ◌^◌, ◌≢◌, length, take};
+    ghost use Rattle.std.specs.Prelude.{◌≡◌, true, ◌≤◌, ◌<◌, ◌+◌, ◌*◌, ◌^◌, length, take};
     ghost use Rattle.print.specs.Put.{Wrote, put};
     ghost use Rattle.print.specs.Rows.{room};
     ghost use Rattle.text.specs.Ends.{breaks};
@@ -48,8 +48,8 @@ impl Rehearsal {
         at
     }
 
-    #[tactic(auto, using(crate::proofs::MachineLaws::in_part))]
     // The bytes of s up to where a step row begins, or all: how many they are, and where the buffer's text ends.
+    #[tactic(auto, using(crate::proofs::MachineLaws::in_part))]
     fn lead(&mut self, s: &[u8], out: &mut [u8], at: usize) -> (usize, usize)
         requires answers_fit { at + room * length s.now + room ≤ length out.old }
         requires rows_fit { self.old.row + length s.now < 2 ^ 64 }
@@ -82,6 +82,7 @@ impl Rehearsal {
 
     // A part of the input: where the buffer's text then ends. Each row that the part ends takes at most `room` bytes of the buffer, and `room` more
     // are asked for, since the header's refusal is two rows.
+    #[tactic(auto, using(text::proofs::BreakLaws::rest_most, text::proofs::BreakLaws::part_all, crate::proofs::TookLaws::step_sound))]
     pub fn feed(&mut self, s: &[u8], out: &mut [u8], at: usize) -> usize
         requires answers_fit { at + room * length s.now + room ≤ length out.old }
         requires rows_fit { self.old.row + length s.now < 2 ^ 64 }

@@ -2,7 +2,7 @@
 use super::{MOST_LINE, Rehearsal};
 use text::{Row, is_header, parse, trim};
 
-#[tactic(auto, using(crate::proofs::MachineLaws::held_more, crate::proofs::MachineLaws::held_full, crate::proofs::MachineLaws::held_short, crate::proofs::MachineLaws::held_over), unfolding(crate::specs::Machine::held_of))]
+#[tactic(auto, using(crate::proofs::MachineLaws::in_row), unfolding(crate::specs::Machine::held_of))]
 impl Rehearsal {
     ghost use Rattle.std.specs.Prelude.{◌≡◌, option_copied};
     ghost use Rattle.transcript.specs.Machine.{held_of, mach_of, pick_held, push as Machine·push, row_in, head_in, short};
