@@ -17,4 +17,4 @@ pub step_keeps : (p : Phase) (a : Answer) (run run' : Run) (s : Step) → p ≡ 
 step_keeps p a run run' s due sound e =
     rw due (ap (λ (x : Stepped). undamaged x.run) e ∙ step_undamaged run s (rw due at sound))
 
-pub ruleset in_answers = (append-nil, step_undamaged, start_undamaged, put_none, after, heads_fit, held_none, asked_run, asked_say, start_sound)
+pub ruleset in_answers = (append-nil, start_undamaged, put_none, held_none, asked_run, asked_say, start_sound)

@@ -8,7 +8,7 @@ use mathlib.Core.Path.{◌≡◌, refl, sym, ◌∙◌, ap}
 use lib.ListN.{length, length-append, get_or, set, take}
 use lib.Seq.{take-suc, take-suc-set, length-take-le, take_all}
 use lib.Dec.{eqb, leb}
-use borrow.Author.Tests.{lt-ltb, le-ltb, le-leb, lt-leb, eq-eqb, ne_eqb, leb-true}
+use borrow.Author.Tests.{lt-ltb, le-ltb, le-leb, lt-leb, leb-true}
 use Rattle.std.proofs.lemmas.List.{take-take}
 use Rattle.transcript.specs.Names.{Phase, Run}
 use Rattle.text.specs.Ends.{unended}
@@ -16,7 +16,7 @@ use Rattle.print.specs.Put.{put}
 use Rattle.print.specs.Numbers.{decimal, digits_by}
 use Rattle.print.specs.Rows.{row_text, no_header_text, head_text}
 use Rattle.print.proofs.PutLaws.{put_none, after}
-use Rattle.transcript.specs.Machine.{Held, Line, Over, Mach, short, next_row, say_line, push, answered, ended, step_m, say_m, run_m, say_all, end_by, held_of, most_line}
+use Rattle.transcript.specs.Machine.{Held, Line, Over, Mach, short, next_row, say_line, push, step_m, say_m, run_m, say_all, end_by, held_of, most_line}
 
 -- ---- a row's bytes
 

@@ -1,12 +1,11 @@
 -- Whole rows that `steps` takes of a part, as the machine takes their bytes. Assumes nothing.
-use Prim.Native.Nat.{ℕ, ◌≤◌, ◌<◌}
+use Prim.Native.Nat.{ℕ, ◌≤◌}
 use native.Mathlib.Omega.{arith}
-use mathlib.Core.Bool.{Bool, true, false}
+use mathlib.Core.Bool.{true}
 use mathlib.Core.List.{List, ◌++◌, append-nil}
 use mathlib.Core.Path.{◌≡◌, refl, sym, ◌∙◌, ap}
 use lib.ListN.{length, take, drop, take-append-drop}
-use lib.Dec.{ltb}
-use borrow.Author.Tests.{eqb-true, ltb-true, ltb-false}
+use borrow.Author.Tests.{eqb-true}
 use Rattle.transcript.specs.Names.{Phase, Rehearsal, Run, Went}
 use Rattle.run.specs.Undamaged.{undamaged}
 use Rattle.print.specs.Put.{Wrote}

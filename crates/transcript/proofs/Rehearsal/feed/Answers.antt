@@ -2,7 +2,7 @@
 use Rattle.std.proofs.Common.{arith, sym, ℕ, ◌-◌, List, length, take, drop}
 use Rattle.text.proofs.BreakLaws.{part_all, rest_most}
 use Rattle.transcript.specs.Machine.{mach_of}
-use Rattle.transcript.proofs.TookLaws.{step_sound, fed_on}
+use Rattle.transcript.proofs.TookLaws.{fed_on}
 use Rattle.transcript.proofs.Rehearsal.feed.Goals as goal
 
 pub returns : goal.returns
