@@ -27,10 +27,7 @@ fn got<R: Read>(input: &mut R, part: &mut [u8]) -> usize
     ensures bound { result ≤ length part.new }
     ensures bytes { Consumes (R.remaining input.old) (R.remaining input.new) (take result part.new) }
 {
-    match input.read(part) {
-        Ok(n) => n,
-        Err(_) => 0,
-    }
+    input.read(part).unwrap_or(0)
 }
 
 // One read, and one write of all that is said of it: whether there is more to read. A read that fails ends the input; a write that fails ends

@@ -5,18 +5,18 @@ use native.Mathlib.Omega.{arith}
 use mathlib.Core.Bool.{Bool, true, false, cond}
 use mathlib.Core.List.{List, [], ◌∷◌, ◌++◌, append_assoc, append-nil}
 use mathlib.Core.Path.{◌≡◌, refl, sym, ◌∙◌, ap}
-use lib.ListN.{length, get_or, set, take}
+use lib.ListN.{length, length-append, get_or, set, take}
 use lib.Seq.{take-suc, take-suc-set, length-take-le, take_all}
 use lib.Dec.{eqb, leb}
-use borrow.Author.Tests.{lt-ltb, le-ltb, le-leb, lt-leb, eq-eqb, ne_eqb, leb-true}
+use borrow.Author.Tests.{lt-ltb, le-ltb, le-leb, lt-leb, leb-true}
 use Rattle.std.proofs.lemmas.List.{take-take}
 use Rattle.transcript.specs.Names.{Phase, Run}
 use Rattle.text.specs.Ends.{unended}
-use Rattle.print.specs.Put.{Wrote}
+use Rattle.print.specs.Put.{put}
 use Rattle.print.specs.Numbers.{decimal, digits_by}
 use Rattle.print.specs.Rows.{row_text, no_header_text, head_text}
 use Rattle.print.proofs.PutLaws.{put_none, after}
-use Rattle.transcript.specs.Machine.{Held, Line, Over, Mach, short, next_row, say_line, push, answered, ended, step_m, say_m, run_m, say_all, end_by, held_of, most_line}
+use Rattle.transcript.specs.Machine.{Held, Line, Over, Mach, short, next_row, say_line, push, step_m, say_m, run_m, say_all, end_by, held_of, most_line}
 
 -- ---- a row's bytes
 
@@ -60,6 +60,9 @@ pub held_over : (n : ℕ) (l : List ℕ) → most_line < n → held_of n l ≡ s
 unfolding held_of
 held_over n l h = rw (lt-leb _ _ h) refl
 
+-- what the code needs of these, for a byte that is held and for a row's end
+pub ruleset in_row = (held_more, held_full, held_short, held_over)
+
 pub held_none : (l : List ℕ) → held_of 0 l ≡ Line []
 unfolding held_of
 held_none l = refl
@@ -69,37 +72,12 @@ pub heads_fit : length (head_text ++ no_header_text) ≡ 62
 unfolding head_text no_header_text row_text decimal digits_by
 heads_fit = refl
 
-row_grows : (p : Phase) (n : ℕ) → next_row p n ≤ n + 1
+pub row_grows : (p : Phase) (n : ℕ) → next_row p n ≤ n + 1
 unfolding next_row
 row_grows Phase.Header n = omega arith
 row_grows Phase.Planning n = omega arith
 row_grows Phase.Running n = omega arith
 row_grows Phase.Ended n = omega arith
-
--- ---- one byte
-
-module _ (m m₁ m₂ : Mach) (b : ℕ) where
-  pub byte_lf : b ≡ 10 → m₁ ≡ record { held = short m.held; phase = m.phase; row = m.row; run = m.run } → m₂ ≡ answered m₁ → m₂ ≡ step_m m b
-  unfolding step_m ended answered
-  byte_lf be e f = rw (eq-eqb _ _ be, f, e) refl
-
-  pub say_lf : b ≡ 10 → m₁ ≡ record { held = short m.held; phase = m.phase; row = m.row; run = m.run }
-      → say_line m₁.phase m₁.row m₁.run m₁.held ≡ say_m m b
-  unfolding say_m
-  say_lf be e = rw (eq-eqb _ _ be, e) refl
-
-  pub row_lf : m₁ ≡ record { held = short m.held; phase = m.phase; row = m.row; run = m.run } → m₂ ≡ answered m₁ → m₂.row ≤ m.row + 1
-  unfolding answered
-  row_lf e f = rw (f, e) (row_grows m.phase m.row)
-
-module _ (m m₁ : Mach) (b : ℕ) (other : b ≡ 10 → ⊥) where
-  pub byte_in : m₁ ≡ record { held = push m.held b; phase = m.phase; row = m.row; run = m.run } → m₁ ≡ step_m m b
-  unfolding step_m
-  byte_in e = rw (ne_eqb _ _ other) e
-
-  pub say_in : [] ≡ say_m m b
-  unfolding say_m
-  say_in = rw (ne_eqb _ _ other) refl
 
 -- ---- several
 
@@ -113,30 +91,29 @@ unfolding run_m say_all
 say_snoc m [] b = append-nil _
 say_snoc m (x ∷ l) b = rw (say_snoc (step_m m x) l b, append_assoc)
 
-pub run_none : (m : Mach) → m ≡ run_m m []
+pub run_none : (m : Mach) → run_m m [] ≡ m
 unfolding run_m
 run_none m = refl
 
-say_none : (m : Mach) (d : List ℕ) (at : ℕ) → Wrote d at (say_all m []) d at
+pub say_none : (m : Mach) → say_all m [] ≡ []
 unfolding say_all
-say_none m d at = (put_none d at, omega arith)
+say_none m = refl
 
-pub feed_none : (m : Mach) (d : List ℕ) (at : ℕ) → (m ≡ run_m m []) × Wrote d at (say_all m []) d at
-feed_none m d at = (run_none m, say_none m d at)
+pub put_on : (d : List ℕ) (at : ℕ) (s t : List ℕ) → at ≤ length d → put (put d at s) (at + length s) t ≡ put d at (s ++ t)
+put_on d at s t h = (after d s t (refl, refl) (refl, refl) h).0
 
-module _ (m₀ m m' : Mach) (s : List ℕ) (i : ℕ) (h : i < length s) (me : m ≡ run_m m₀ (take i s)) where
+module _ (m : Mach) (s : List ℕ) (i : ℕ) (h : i < length s) where
   one_more : take (i + 1) s ≡ take i s ++ (get_or s i 0 ∷ [])
   one_more = rw add-one (take-suc s i 0 h)
 
-  pub run_next : m' ≡ step_m m (get_or s i 0) → m' ≡ run_m m₀ (take (i + 1) s)
-  run_next ne =
-      ne ∙ ap (λ (x : Mach). step_m x (get_or s i 0)) me ∙ sym (run_snoc m₀ (take i s) (get_or s i 0)) ∙ ap (run_m m₀) (sym one_more)
+  pub run_next : run_m m (take (i + 1) s) ≡ step_m (run_m m (take i s)) (get_or s i 0)
+  run_next = ap (run_m m) one_more ∙ run_snoc m (take i s) (get_or s i 0)
 
-  pub say_next : (d e f : List ℕ) (at r q : ℕ) → Wrote d at (say_all m₀ (take i s)) e r → Wrote e r (say_m m (get_or s i 0)) f q
-      → at ≤ length d → Wrote d at (say_all m₀ (take (i + 1) s)) f q
-  say_next d e f at r q p u k =
-      let w : Wrote e r (say_m (run_m m₀ (take i s)) (get_or s i 0)) f q = rw me at u in
-      rw (one_more, say_snoc) (after d _ _ p w k)
+  pub say_next : say_all m (take (i + 1) s) ≡ say_all m (take i s) ++ say_m (run_m m (take i s)) (get_or s i 0)
+  say_next = ap (say_all m) one_more ∙ say_snoc m (take i s) (get_or s i 0)
+
+-- what the loop over a part's bytes needs
+pub ruleset in_part = (run_none, say_none, run_next, say_next, put_none, put_on, length-append)
 
 -- ---- the input's end
 
@@ -182,3 +159,6 @@ end_header p n run h e = rw e refl
 
 pub end_none : (p : Phase) (n : ℕ) (run : Run) (k : ℕ) (l : List ℕ) → k ≡ 0 → (p ≡ Phase.Header → ⊥) → [] ≡ end_by p n run (held_of k l)
 end_none p n run k l z e = rw (z, held_none l) (end_empty p n run e)
+
+-- what the code needs at the input's end
+pub ruleset at_end = (put_none, end_none, end_held, end_header)

@@ -1,12 +1,11 @@
 -- Whole rows that `steps` takes of a part, as the machine takes their bytes. Assumes nothing.
-use Prim.Native.Nat.{ℕ, ◌≤◌, ◌<◌}
+use Prim.Native.Nat.{ℕ, ◌≤◌}
 use native.Mathlib.Omega.{arith}
-use mathlib.Core.Bool.{Bool, true, false}
+use mathlib.Core.Bool.{true}
 use mathlib.Core.List.{List, ◌++◌, append-nil}
 use mathlib.Core.Path.{◌≡◌, refl, sym, ◌∙◌, ap}
 use lib.ListN.{length, take, drop, take-append-drop}
-use lib.Dec.{ltb}
-use borrow.Author.Tests.{eqb-true, ltb-true, ltb-false}
+use borrow.Author.Tests.{eqb-true}
 use Rattle.transcript.specs.Names.{Phase, Rehearsal, Run, Went}
 use Rattle.run.specs.Undamaged.{undamaged}
 use Rattle.print.specs.Put.{Wrote}
@@ -31,14 +30,6 @@ row_begins p len line n run e = let q = step_is_running p len e in rw (q.0, q.1)
 
 pub step_sound : (r : Rehearsal) → at_step r.phase r.len ≡ true → undamaged r.run ≡ true
 step_sound r due = rw (step_is_running r.phase r.len due).0 at r.sound
-
--- where no step row begins, all bytes were led on
-pub all_led : (u n : ℕ) (t : Bool) → t ≡ false → (u < n → t ≡ true) → n ≤ u
-all_led u n t e f = go (ltb u n) refl
-  where
-    go : (x : Bool) → ltb u n ≡ x → n ≤ u
-    go true h = absurd (let z : true ≡ false = sym (f (ltb-true u n h)) ∙ e in let y : ◌≡◌ {A = ℕ} 0 1 = cc in omega arith)
-    go false h = ltb-false u n h
 
 -- ---- the rows that were taken, as the machine takes their bytes
 

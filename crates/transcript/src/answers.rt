@@ -74,19 +74,6 @@ impl Rehearsal {
         put_step(out, at, row, answer)
     }
 
-    fn by_phase(&mut self, out: &mut [u8], at: usize) -> usize
-        requires answer_fits { at + room + room ≤ length out.old }
-        requires row_fits { self.old.row + 1 < 2 ^ 64 }
-        ensures { Acted self.old.phase (held_of self.old.len self.old.line) self.old self.new out.old at out.new result }
-    {
-        match self.phase {
-            Phase::Header => self.head_row(out, at),
-            Phase::Planning => self.plan_row(out, at),
-            Phase::Running => self.step_row(out, at),
-            Phase::Ended => at,
-        }
-    }
-
     // The row without its end is answered, and the next one begins.
     pub(super) fn act(&mut self, out: &mut [u8], at: usize) -> usize
         requires answer_fits { at + room + room ≤ length out.old }
@@ -95,7 +82,12 @@ impl Rehearsal {
         ensures said { Wrote out.old at (say_line self.old.phase self.old.row self.old.run (held_of self.old.len self.old.line)) out.new result }
         ensures most { result ≤ at + room }
     {
-        let end = self.by_phase(out, at);
+        let end = match self.phase {
+            Phase::Header => self.head_row(out, at),
+            Phase::Planning => self.plan_row(out, at),
+            Phase::Running => self.step_row(out, at),
+            Phase::Ended => at,
+        };
         self.len = 0;
         end
     }

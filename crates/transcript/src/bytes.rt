@@ -4,7 +4,7 @@ use run::start;
 use turns::steps;
 
 impl Rehearsal {
-    ghost use Rattle.std.specs.Prelude.{◌≡◌, true, ◌≤◌, ◌<◌, ◌+◌, ◌*◌, ◌^◌, ◌≢◌, length, take};
+    ghost use Rattle.std.specs.Prelude.{◌≡◌, true, ◌≤◌, ◌<◌, ◌+◌, ◌*◌, ◌^◌, length, take};
     ghost use Rattle.print.specs.Put.{Wrote, put};
     ghost use Rattle.print.specs.Rows.{room};
     ghost use Rattle.text.specs.Ends.{breaks};
@@ -31,12 +31,13 @@ impl Rehearsal {
     }
 
     // One byte. LF, and nothing else, ends a row.
+    #[tactic(auto, using(crate::proofs::MachineLaws::row_grows, print::proofs::PutLaws::put_none), unfolding(crate::specs::Machine::step_m, crate::specs::Machine::say_m, crate::specs::Machine::answered, crate::specs::Machine::ended))]
     fn byte(&mut self, b: u8, out: &mut [u8], at: usize) -> usize
         requires answer_fits { at + room + room ≤ length out.old }
         requires row_fits { self.old.row + 1 < 2 ^ 64 }
         ensures state { mach_of self.new ≡ step_m (mach_of self.old) b }
         ensures said { Wrote out.old at (say_m (mach_of self.old) b) out.new result }
-        ensures least { (result ≤ at + room) × (self.new.row ≤ self.old.row + 1) }
+        ensures most { (result ≤ at + room) × (self.new.row ≤ self.old.row + 1) }
     {
         let ends = b == b'\n';
         if ends {
@@ -48,6 +49,7 @@ impl Rehearsal {
     }
 
     // The bytes of s up to where a step row begins, or all: how many they are, and where the buffer's text ends.
+    #[tactic(auto, using(crate::proofs::MachineLaws::in_part))]
     fn lead(&mut self, s: &[u8], out: &mut [u8], at: usize) -> (usize, usize)
         requires answers_fit { at + room * length s.now + room ≤ length out.old }
         requires rows_fit { self.old.row + length s.now < 2 ^ 64 }
@@ -67,6 +69,7 @@ impl Rehearsal {
     }
 
     // Bytes without LF.
+    #[tactic(auto, using(crate::proofs::MachineLaws::run_none, crate::proofs::MachineLaws::run_next, crate::proofs::RowLaws::no_lf), unfolding(crate::specs::Machine::step_m))]
     fn hold(&mut self, s: &[u8])
         requires { breaks s.now ≡ 0 }
         ensures state { mach_of self.new ≡ run_m (mach_of self.old) s.now }
@@ -79,6 +82,7 @@ impl Rehearsal {
 
     // A part of the input: where the buffer's text then ends. Each row that the part ends takes at most `room` bytes of the buffer, and `room` more
     // are asked for, since the header's refusal is two rows.
+    #[tactic(auto, using(text::proofs::BreakLaws::rest_most, text::proofs::BreakLaws::part_all, crate::proofs::TookLaws::step_sound))]
     pub fn feed(&mut self, s: &[u8], out: &mut [u8], at: usize) -> usize
         requires answers_fit { at + room * length s.now + room ≤ length out.old }
         requires rows_fit { self.old.row + length s.now < 2 ^ 64 }

@@ -15,6 +15,7 @@ impl Rehearsal {
     }
 
     // The input's end: a row that has no LF, or an input with no byte. Answers where the buffer's text ends.
+    #[tactic(auto, using(crate::proofs::MachineLaws::at_end))]
     pub fn finish(&mut self, out: &mut [u8], at: usize) -> usize
         requires answer_fits { at + room + room ≤ length out.old }
         requires row_fits { self.old.row + 1 < 2 ^ 64 }

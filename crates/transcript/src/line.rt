@@ -2,7 +2,7 @@
 use super::{MOST_LINE, Rehearsal};
 use text::{Row, is_header, parse, trim};
 
-#[tactic(auto, using(crate::proofs::MachineLaws::held_more, crate::proofs::MachineLaws::held_full, crate::proofs::MachineLaws::held_short, crate::proofs::MachineLaws::held_over), unfolding(crate::specs::Machine::held_of))]
+#[tactic(auto, using(crate::proofs::MachineLaws::in_row), unfolding(crate::specs::Machine::held_of))]
 impl Rehearsal {
     ghost use Rattle.std.specs.Prelude.{◌≡◌, option_copied};
     ghost use Rattle.transcript.specs.Machine.{held_of, mach_of, pick_held, push as Machine·push, row_in, head_in, short};
@@ -11,19 +11,13 @@ impl Rehearsal {
     fn held(&self) -> Option<&[u8]>
         ensures { pick_held (option_copied result) ≡ held_of self.now.len self.now.line }
     {
-        if MOST_LINE < self.len {
-            return None;
-        }
-        Some(&self.line[..self.len])
+        self.line.get(..self.len)
     }
 
     pub(super) fn is_header(&self) -> bool
         ensures { result ≡ head_in (held_of self.now.len self.now.line) }
     {
-        match self.held() {
-            Some(l) => is_header(l),
-            None => false,
-        }
+        self.held().is_some_and(|l| is_header(l))
     }
 
     pub(super) fn says(&self) -> Option<Row>
@@ -48,8 +42,8 @@ impl Rehearsal {
     pub(super) fn shorten(&mut self)
         ensures { mach_of self.new ≡ record (mach_of self.old) { held = short (held_of self.old.len self.old.line) } }
     {
-        if self.len <= MOST_LINE {
-            self.len = trim(&self.line[..self.len]).len();
+        if let Some(l) = self.held() {
+            self.len = trim(l).len();
         }
     }
 }

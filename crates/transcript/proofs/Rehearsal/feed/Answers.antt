@@ -2,22 +2,8 @@
 use Rattle.std.proofs.Common.{arith, sym, ℕ, ◌-◌, List, length, take, drop}
 use Rattle.text.proofs.BreakLaws.{part_all, rest_most}
 use Rattle.transcript.specs.Machine.{mach_of}
-use Rattle.transcript.proofs.TookLaws.{step_sound, fed_on}
+use Rattle.transcript.proofs.TookLaws.{fed_on}
 use Rattle.transcript.proofs.Rehearsal.feed.Goals as goal
-
-pub steps-went-requires : goal.steps-went-requires
-steps-went-requires c =
-    let most = rest_most c.args.s.now c.lead-used.result.0 in
-    record {
-      answers_fit = omega (arith, most, c.lead-used.ensures.most.0, c.lead-used.ensures.used.0, c.requires.answers_fit);
-      rows_fit = omega (arith, most, c.lead-used.ensures.most.1, c.lead-used.ensures.used.0, c.requires.rows_fit);
-      whole = step_sound c.lead-used.new.self (sym c.if-not-at_step.ensures);
-    }
-
-pub hold-requires : goal.hold-requires
-hold-requires c =
-    let rest : List ℕ = take (length c.args.s.now - c.lead-used.result.0) (drop c.lead-used.result.0 c.args.s.now) in
-    rw (part_all rest c.steps-went.result.used) c.steps-went.ensures.rest
 
 pub returns : goal.returns
 returns c =
