@@ -84,7 +84,7 @@ module _ (l : List ℕ) (n : ℕ) (run : Run) (bare : breaks l ≡ 0) where
       ∙ lf_run (holds l) n run
       ∙ ap (λ (x : Option Row). at_row (n + 1) (run_after run x)) (row_lf l)
 
-  pub row_say : say_all (at_row n run) (l ++ (10 ∷ [])) ≡ answer_text n run (row_of (unended l))
+  row_say : say_all (at_row n run) (l ++ (10 ∷ [])) ≡ answer_text n run (row_of (unended l))
   row_say =
       say_append (at_row n run) l (10 ∷ [])
       ∙ ap (λ (x : List ℕ). x ++ say_all (run_m (at_row n run) l) (10 ∷ [])) (bare_say (at_row n run) l bare)

@@ -23,7 +23,7 @@ step_is_running Phase.Running len e = (refl, eqb-true len 0 e)
 step_is_running Phase.Ended len e = absurd (let z : ◌≡◌ {A = ℕ} 0 1 = cc in omega arith)
 
 -- where a step row begins, nothing is held, and the run is undamaged
-pub row_begins : (p : Phase) (len : ℕ) (line : List ℕ) (n : ℕ) (run : Run) → at_step p len ≡ true
+row_begins : (p : Phase) (len : ℕ) (line : List ℕ) (n : ℕ) (run : Run) → at_step p len ≡ true
     → ◌≡◌ {A = Mach} (record { held = held_of len line; phase = p; row = n; run = run }) (at_row n run)
 unfolding held_of
 row_begins p len line n run e = let q = step_is_running p len e in rw (q.0, q.1)
