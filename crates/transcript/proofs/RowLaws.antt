@@ -24,7 +24,7 @@ use Rattle.transcript.proofs.HeldLaws.{holds, hold_push, row_lf}
 
 -- ---- bytes without LF
 
-abbrev pub rowing : Held → ℕ → Run → Mach
+abbrev rowing : Held → ℕ → Run → Mach
 rowing h n run = record { held = h; phase = Phase.Running; row = n; run = run }
 
 byte_held : (h : Held) (n : ℕ) (run : Run) (b : ℕ) → (b ≡ 10 → ⊥) → step_m (rowing h n run) b ≡ rowing (push h b) n run
@@ -77,7 +77,7 @@ unfolding say_all say_m say_line
 lf_say h n run = append-nil _
 
 module _ (l : List ℕ) (n : ℕ) (run : Run) (bare : breaks l ≡ 0) where
-  pub row_run : run_m (at_row n run) (l ++ (10 ∷ [])) ≡ at_row (n + 1) (run_after run (row_of (unended l)))
+  row_run : run_m (at_row n run) (l ++ (10 ∷ [])) ≡ at_row (n + 1) (run_after run (row_of (unended l)))
   row_run =
       run_append (at_row n run) l (10 ∷ [])
       ∙ ap (λ (m : Mach). run_m m (10 ∷ [])) (bare_run [] l n run bare)
