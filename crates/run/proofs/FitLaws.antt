@@ -1,10 +1,6 @@
 -- What an undamaged run tells of the places and numbers in it: places within the arrays, and numbers so small that no sum of a step wraps.
 -- Assumes nothing.
-use Prim.Native.Nat.{ℕ, ◌≤◌, ◌<◌}
-use mathlib.Core.Bool.{true}
-use mathlib.Core.Path.{◌≡◌, subst}
-use native.Mathlib.Omega.{arith}
-use lib.ListN.{get_or}
+use Rattle.std.proofs.Common.{ℕ, ◌≤◌, ◌<◌, true, ◌≡◌, subst, arith, get_or}
 use Rattle.limits.specs.Limits.{most_cabinets, most_clients, most_steps}
 use Rattle.run.specs.Names.{Body, Entry, Held, Message, Run}
 use Rattle.types.specs.Parts.{empty_slot, fresh_client}

@@ -1,9 +1,7 @@
 -- Laws of the two scans, for a free slot and for marked cabinets: what is counted from a place on is what std finds in the list. Assumes nothing.
-use Rattle.std.proofs.Common.{ℕ, suc, ◌+◌, ◌≡◌, ◌≤◌, ◌<◌, Bool, true, false, cond, not, ◌&&◌, List, [], ◌∷◌, Option, Some, None, length, refl, arith, cond}
+use Rattle.std.proofs.Common.{ℕ, suc, ◌+◌, ◌≡◌, ◌≤◌, ◌<◌, Bool, true, false, cond, not, ◌&&◌, List, [], ◌∷◌, Option, Some, None, length, refl, arith, add-one, eqb, ltb}
 use Rattle.std.proofs.lemmas.Bool.Decides.{nat_tests}
 use Rattle.std.specs.List.{position_or_len, filter, enumerate_from}
-use native.Mathlib.Numerals.{add-one}
-use lib.Dec.{eqb, ltb}
 use Rattle.run.specs.Names.{Cabinet, Slot}
 use Rattle.run.specs.Gather.{is_empty, first_from, others_from}
 

@@ -1,6 +1,5 @@
 -- What a rollback that was let in comes to: nowhere, not, or to the older version. Assumes nothing.
-use Rattle.std.proofs.Common.{ℕ, ◌+◌, ◌≡◌, Bool, true, false, ◌||◌, List, get_or, set, sym, ap, ◌∙◌}
-use lib.Dec.{ltb}
+use Rattle.std.proofs.Common.{ℕ, ◌+◌, ◌≡◌, Bool, true, false, ◌||◌, List, get_or, set, sym, ap, ◌∙◌, ltb}
 use Rattle.run.specs.Names.{Asked, Cabinet, Change, Client, Decision, Deed, Err, Ok, Outcome, Refusal, Result, Run, Slot, Step, Stepped}
 use Rattle.cabinet.specs.Cabinets.{goes_back, rolled_back}
 use Rattle.types.specs.Parts.{no_cabinet, stored_in}

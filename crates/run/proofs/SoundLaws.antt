@@ -1,11 +1,5 @@
 -- What an undamaged run says of each of its parts. Assumes nothing.
-use Prim.Native.Nat.{ℕ, ◌≤◌}
-use mathlib.Core.Bool.{Bool, true, false, cond, ◌&&◌}
-use mathlib.Core.Path.{◌≡◌, refl}
-use native.Mathlib.Omega.{arith}
-use lib.Dec.{leb, ltb}
-use borrow.Author.Tests.{leb-true, le-leb}
-use lib.ListN.{get_or}
+use Rattle.std.proofs.Common.{ℕ, ◌≤◌, Bool, true, false, cond, ◌&&◌, ◌≡◌, refl, arith, leb, ltb, leb-true, le-leb, get_or}
 use Rattle.limits.specs.Limits.{most_steps}
 use Rattle.run.specs.Names.{Cabinet, Plan, Run}
 use Rattle.plan.specs.Rule.{is_ruled}

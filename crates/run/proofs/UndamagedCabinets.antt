@@ -1,13 +1,5 @@
 -- Whatever a step does to a cabinet of the line, a sound record stays sound. Assumes nothing.
-use Prim.Native.Nat.{ℕ, zero, suc, ◌+◌, ◌-◌, ◌<◌, min}
-use mathlib.Core.Bool.{Bool, true, false, cond}
-use mathlib.Core.List.{List, ◌∷◌}
-use mathlib.Core.Path.{◌≡◌, refl, sym, ◌∙◌}
-use native.Mathlib.Omega.{arith}
-use native.Mathlib.Nat.{zero-add}
-use lib.ListN.{length, get_or, drop, replicate, length-take}
-use lib.Seq.{get_or-take, get_or-drop}
-use borrow.Author.Tests.{lt-ltb}
+use Rattle.std.proofs.Common.{ℕ, zero, suc, ◌+◌, ◌-◌, ◌<◌, min, Bool, true, false, cond, List, ◌∷◌, ◌≡◌, refl, sym, ◌∙◌, arith, zero-add, length, get_or, drop, replicate, length-take, get_or-take, get_or-drop, lt-ltb}
 use Rattle.limits.specs.Limits.{most_versions}
 use Rattle.run.specs.Names.{Cabinet, Deed, Entry, Plan}
 use Rattle.cabinet.specs.Cabinets.{present_of, added, taken, offered, restarted, older_from, older_by, as_built, rolled_back}

@@ -1,9 +1,5 @@
 -- A change whose parts are sound leaves an undamaged run undamaged. Assumes nothing.
-use Prim.Native.Nat.{ℕ, ◌+◌, ◌<◌}
-use mathlib.Core.Bool.{true}
-use mathlib.Core.Path.{◌≡◌}
-use native.Mathlib.Omega.{arith}
-use lib.ListN.{set}
+use Rattle.std.proofs.Common.{ℕ, ◌+◌, ◌<◌, true, ◌≡◌, arith, set}
 use Rattle.limits.specs.Limits.{most_steps}
 use Rattle.run.specs.Names.{Change, Client, Decision, Deed, Entry, Outcome, Plan, Refusal, Run, Slot}
 use Rattle.types.specs.Parts.{empty_slot, no_cabinet}

@@ -1,8 +1,5 @@
 -- A client that begins or leaves stays sound. Assumes nothing.
-use Prim.Native.Nat.{ℕ, ◌+◌, ◌≤◌}
-use mathlib.Core.Bool.{true}
-use mathlib.Core.Path.{◌≡◌, refl}
-use native.Mathlib.Omega.{arith}
+use Rattle.std.proofs.Common.{ℕ, ◌+◌, ◌≤◌, true, ◌≡◌, refl, arith}
 use Rattle.run.specs.Names.{Client, Plan, Standing, Work}
 use Rattle.plan.proofs.RuleLaws.{Quorums}
 use Rattle.heard.specs.Heard.{none_heard}

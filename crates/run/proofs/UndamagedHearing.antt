@@ -1,10 +1,5 @@
 -- A client that hears a reply stays sound. Assumes nothing.
-use Prim.Native.Nat.{ℕ, ◌+◌, ◌<◌}
-use mathlib.Core.Bool.{Bool, true, false, cond}
-use mathlib.Core.Path.{◌≡◌, refl, ap, ◌∙◌}
-use native.Mathlib.Omega.{arith}
-use lib.Dec.{eqb, leb}
-use borrow.Author.Tests.{leb-false}
+use Rattle.std.proofs.Common.{ℕ, ◌+◌, ◌<◌, Bool, true, false, cond, ◌≡◌, refl, ap, ◌∙◌, arith, eqb, leb, leb-false}
 use Rattle.limits.specs.Limits.{most_clients}
 use Rattle.run.specs.Names.{Body, Client, Ending, Entry, Heard, Message, None, Option, Plan, Reading, Some, Told, Work}
 use Rattle.plan.proofs.RuleLaws.{both, Quorums}

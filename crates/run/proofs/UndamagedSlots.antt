@@ -1,9 +1,5 @@
 -- A request that is sent and a reply to it are sound messages. Assumes nothing.
-use Prim.Native.Nat.{ℕ, ◌+◌, ◌<◌}
-use mathlib.Core.Bool.{Bool, true, false}
-use mathlib.Core.Path.{◌≡◌, refl}
-use native.Mathlib.Omega.{arith}
-use lib.Dec.{leb}
+use Rattle.std.proofs.Common.{ℕ, ◌+◌, ◌<◌, Bool, true, false, ◌≡◌, refl, arith, leb}
 use Rattle.limits.specs.Limits.{most_clients, most_slots}
 use Rattle.run.specs.Names.{Body, Client, Entry, Held, Message, Plan, Power, Sight, Standing, Work}
 use Rattle.client.specs.Begin.{standing_of, part_of, request_body, request_of, request_slot, sends_by, sends_of}
