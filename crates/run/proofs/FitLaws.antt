@@ -1,11 +1,12 @@
 -- What an undamaged run tells of the places and numbers in it: places within the arrays, and numbers so small that no sum of a step wraps.
 -- Assumes nothing.
 use Rattle.std.proofs.Common.{ℕ, ◌≤◌, ◌<◌, true, ◌≡◌, subst, arith, get_or}
+use Rattle.std.proofs.lemmas.Bool.Decides.{nat_tests}
 use Rattle.limits.specs.Limits.{most_cabinets, most_clients, most_steps}
 use Rattle.run.specs.Names.{Body, Entry, Held, Message, Run}
 use Rattle.types.specs.Parts.{empty_slot, fresh_client}
 use Rattle.client.specs.Hear.{told_counter}
-use Rattle.guard.specs.Damage.{entry_sound}
+use Rattle.guard.specs.Damage.{stamp_sound, entry_sound}
 use Rattle.guard.proofs.DamageLaws.{stamp_says, entry_says, client_says}
 use Rattle.guard.proofs.MessageLaws.{Tells, HeldIs, address_says, slot_says}
 use Rattle.run.specs.Steps.{client_at, slot_at}
@@ -13,15 +14,11 @@ use Rattle.run.specs.Undamaged.{undamaged}
 use Rattle.run.proofs.SoundLaws.{undamaged_says, sound_plan, sound_client, sound_slot}
 
 pub entry_low : (steps : ℕ) (e : Entry) → entry_sound steps e ≡ true → e.stamp.counter ≤ steps
-entry_low steps e h = (stamp_says steps e.stamp (entry_says steps e h).0).0
+unfolding entry_sound stamp_sound
+entry_low steps e h = grind (arith, nat_tests)
 
 pub tells_low : (steps part : ℕ) (b : Body) → Tells steps part b → told_counter b ≤ steps
-tells_low steps part Body.AskStamp h = omega arith
-tells_low steps part Body.AskEntry h = omega arith
-tells_low steps part (Body.Offer e) h = absurd h
-tells_low steps part (Body.TellStamp s) h = (stamp_says steps s h.1).0
-tells_low steps part (Body.TellEntry e) h = entry_low steps e h.1
-tells_low steps part Body.Acknowledge h = omega arith
+tells_low steps part b h = grind (arith, stamp_says, entry_low)
 
 -- ---- of a run
 

@@ -36,21 +36,6 @@ fresh_shaped plan =
 
 -- ---- a cabinet keeps its eight places, whatever is done to it
 
-taken_places : (stored : Bool) (e : Entry) (k : Cabinet) → length k.versions ≡ most_versions
-    → length (taken stored e k).versions ≡ most_versions
-unfolding taken
-taken_places stored e k h = grind (arith, length-take, length-set)
-
-offered_places : (stored : Bool) (e : Entry) (k : Cabinet) → length k.versions ≡ most_versions
-    → length (offered stored e k).versions ≡ most_versions
-unfolding offered
-offered_places stored e k h = grind (arith, taken_places)
-
-restarted_places : (stored forgetful : Bool) (k : Cabinet) → length k.versions ≡ most_versions
-    → length (restarted stored forgetful k).versions ≡ most_versions
-unfolding restarted
-restarted_places stored forgetful k h = grind (arith, length-replicate)
-
 rolled_places : (stored : Bool) (j : ℕ) (k : Cabinet) → length k.versions ≡ most_versions
     → length (rolled_back stored j k).versions ≡ most_versions
 rolled_places stored j k h =
@@ -59,8 +44,8 @@ rolled_places stored j k h =
 
 deed_places : (plan : Plan) (p : ℕ) (d : Deed) (k : Cabinet) → length k.versions ≡ most_versions
     → length (deed_of plan p d k).versions ≡ most_versions
-unfolding deed_of
-deed_places plan p d k h = grind (arith, offered_places, restarted_places, rolled_places)
+unfolding deed_of offered taken restarted
+deed_places plan p d k h = grind (arith, length-take, length-set, length-replicate, rolled_places)
 
 done_placed : (plan : Plan) (l : List Cabinet) (p : ℕ) (d : Deed) → length l ≡ most_cabinets → Placed l → Placed (done_at plan l p d)
 unfolding done_at

@@ -1,5 +1,6 @@
 -- What an undamaged run says of each of its parts. Assumes nothing.
 use Rattle.std.proofs.Common.{ℕ, ◌≤◌, Bool, true, false, cond, ◌&&◌, ◌≡◌, refl, arith, leb, ltb, leb-true, le-leb, get_or}
+use Rattle.std.proofs.lemmas.Bool.Decides.{nat_tests}
 use Rattle.limits.specs.Limits.{most_steps}
 use Rattle.run.specs.Names.{Cabinet, Plan, Run}
 use Rattle.plan.specs.Rule.{is_ruled}
@@ -24,17 +25,11 @@ pub record Sound (run : Run) : Type 0 where
 
 pub undamaged_says : (run : Run) → undamaged run ≡ true → Sound run
 unfolding undamaged rest_sound
-undamaged_says run h =
-    let a = both (is_ruled run.plan && _) _ h in
-    let b = both (is_ruled run.plan) _ a.0 in
-    let c = both (leb run.steps most_steps) _ b.1 in
-    let d = both (all_from (client_sound run.plan run.steps) 0 run.clients) _ c.1 in
-    record { ruled = b.0; steps = leb-true _ _ c.0; clients = d.0; slots = d.1; cabinets = a.1 }
+undamaged_says run h = grind (arith, nat_tests)
 
 pub undamaged_made : (run : Run) → Sound run → undamaged run ≡ true
 unfolding undamaged rest_sound
-undamaged_made run h =
-    joined _ _ (joined _ _ h.ruled (joined _ _ (le-leb _ _ h.steps) (joined _ _ h.clients h.slots))) h.cabinets
+undamaged_made run h = grind (arith, nat_tests)
 
 -- every version of a cabinet is sound
 versions_sound : (plan : Plan) (steps i : ℕ) (k : Cabinet) → cabinet_sound plan steps i k ≡ true

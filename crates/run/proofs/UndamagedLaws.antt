@@ -1,5 +1,6 @@
 -- Every step keeps an undamaged run undamaged, and a fresh run is: "Runs reached from a fresh one always pass". Assumes nothing.
 use Rattle.std.proofs.Common.{ℕ, ◌+◌, ◌<◌, Bool, true, false, cond, ◌||◌, List, [], ◌∷◌, ◌≡◌, refl, arith, ltb}
+use Rattle.std.proofs.lemmas.Bool.Decides.{nat_tests}
 use Rattle.limits.specs.Limits.{most_cabinets, most_clients, most_slots, most_versions}
 use Rattle.run.specs.Names.{Refusal, Asked, Err, Held, Ok, Plan, Planned, Power, Result, Run, Sight, Step, Unplanned}
 use Rattle.plan.specs.Rule.{in_range, chosen, plan_of, forgetful_plan}
@@ -10,7 +11,7 @@ use Rattle.types.specs.Parts.{fresh_client, empty_slot, sight_of, stored_in}
 use Rattle.admit.specs.Admit.{placed}
 use Rattle.server.specs.Deeds.{stops_when, rolls_of}
 use Rattle.guard.specs.All.{all_from}
-use Rattle.guard.specs.Damage.{version_sound, record_sound, is_fresh, cabinet_sound, client_sound, slot_sound}
+use Rattle.guard.specs.Damage.{kept_sound, version_sound, record_sound, is_fresh, cabinet_sound, client_sound, slot_sound}
 use Rattle.guard.proofs.AllLaws.{all_replicate}
 use Rattle.guard.proofs.DamageLaws.{factory_made, version_factory, kept_made, record_made, fresh_made, client_made}
 use Rattle.guard.proofs.MessageLaws.{HeldIs, slot_says}
@@ -31,25 +32,15 @@ use Rattle.run.proofs.UndamagedSlots.{sends_keeps, answers_keeps, loses_keeps}
 -- ---- a step
 
 stops_keep : (plan : Plan) (steps p : ℕ) (w : Power) → p < plan.n → Keeps plan steps (stops_when w p)
-stops_keep plan steps p Power.Down line = refused
-stops_keep plan steps p Power.Up line = of_cabinet line tt
-stops_keep plan steps p Power.Stale line = of_cabinet line tt
+stops_keep plan steps p w line = grind (arith, refused, of_cabinet)
 
 rolls_keep : (plan : Plan) (steps p j : ℕ) (k : Sight) (others : ℕ) → p < plan.n → Keeps plan steps (rolls_of plan p j k others)
 unfolding rolls_of
-rolls_keep plan steps p j k others line =
-    either (Keeps plan steps) (has_version (stored_in plan p) k.present.stamp k.kept j) _ _
-    (either (Keeps plan steps) (k.marked || ltb others plan.r) _ _ (of_cabinet line tt) refused)
-    refused
+rolls_keep plan steps p j k others line = grind (arith, refused, of_cabinet)
 
 module _ (run : Run) (sound : Sound run) where
   delivers_keep : (j : ℕ) (h : Held) → HeldIs run.plan.n run.steps h → Keeps run.plan (run.steps + 1) (delivers_in run j h)
-  delivers_keep j Held.Empty f = refused
-  delivers_keep j (Held.Request m) f =
-      answers_keeps run.plan run.steps j m (sight_of (cabinet_at run m.cabinet)) f.0 (sound_present run sound m.cabinet) f.1
-  delivers_keep j (Held.Reply m) f =
-      hears_keeps run.plan run.steps j (client_at run m.client) m (sound_plan run sound) (sound_client run sound m.client) f.0
-      f.1
+  delivers_keep j h f = grind (arith, refused, answers_keeps, hears_keeps, sound_present, sound_plan, sound_client)
 
   asked_keeps : (a : Result Asked Refusal) → Placed run.plan.n a → Keeps run.plan (run.steps + 1) (decide_of run a)
   unfolding decide_of
@@ -80,16 +71,11 @@ step_undamaged run s h = step_by run s (λ (r : Run). undamaged r ≡ true) h (g
 -- ---- a fresh run
 
 fresh_cabinet_sound : (plan : Plan) (i : ℕ) → cabinet_sound plan 0 i fresh_cabinet ≡ true
-unfolding cabinet_sound
-fresh_cabinet_sound plan i = go (ltb i plan.n) (stored_in plan i)
+unfolding cabinet_sound record_sound kept_sound
+fresh_cabinet_sound plan i = grind (arith, nat_tests, versions, fresh_made)
   where
     versions : all_from (version_sound 0 1) 0 fresh_cabinet.versions ≡ true
     versions = all_replicate (version_sound 0 1) 0 most_versions factory_entry (λ j. version_factory 0 1 j)
-
-    go : (t stored : Bool) → cond t (record_sound 0 stored fresh_cabinet) (is_fresh fresh_cabinet) ≡ true
-    go true true = record_made 0 true fresh_cabinet (kept_made true 1 (omega arith) (omega arith) refl) versions
-    go true false = record_made 0 false fresh_cabinet (kept_made false 1 (omega arith) (omega arith) refl) versions
-    go false stored = fresh_made
 
 pub fresh_undamaged : (n k r b : ℕ) (p : Plan) → plan_of n k r b ≡ Ok p → undamaged (fresh_run p) ≡ true
 unfolding fresh_run
