@@ -35,36 +35,24 @@ module _ (run : Run) (whole : undamaged run ≡ true) where
   module _ (i : ℕ) where
     pub client_operation : (get_or run.clients i fresh_client).operation ≤ most_steps
     unfolding client_at
-    client_operation =
-        let c = client_says run.plan run.steps i (client_at run i) (sound_client run (undamaged_says run whole) i) in
-        omega (arith, c.0, steps_most)
+    client_operation = grind (arith, client_says, sound_client run (undamaged_says run whole) i, steps_most)
 
     pub client_best : (get_or run.clients i fresh_client).best.stamp.counter ≤ most_steps
     unfolding client_at
-    client_best =
-        let c = client_says run.plan run.steps i (client_at run i) (sound_client run (undamaged_says run whole) i) in
-        omega (arith, entry_low run.steps (client_at run i).best c.1, steps_most)
+    client_best = grind (arith, client_says, sound_client run (undamaged_says run whole) i, steps_most, entry_low)
 
   module _ (j : ℕ) (m : Message) where
     pub request_places : (get_or run.slots j empty_slot).held ≡ Held.Request m → (m.client < most_clients) × (m.cabinet < most_cabinets)
     unfolding slot_at
-    request_places g =
-        let h = subst (HeldIs run.plan.n run.steps) g (holds j) in
-        let a = address_says run.plan.n run.steps m h.0 in
-        (a.1, omega (arith, a.2, cabinets_range.1))
+    request_places g = grind (arith, address_says, holds j, cabinets_range)
 
     pub reply_places : (get_or run.slots j empty_slot).held ≡ Held.Reply m → (m.client < most_clients) × (m.cabinet < most_cabinets)
     unfolding slot_at
-    reply_places g =
-        let h = subst (HeldIs run.plan.n run.steps) g (holds j) in
-        let a = address_says run.plan.n run.steps m h.0 in
-        (a.1, omega (arith, a.2, cabinets_range.1))
+    reply_places g = grind (arith, address_says, holds j, cabinets_range)
 
     pub reply_told : (get_or run.slots j empty_slot).held ≡ Held.Reply m → told_counter m.body ≤ most_steps
     unfolding slot_at
-    reply_told g =
-        let h = subst (HeldIs run.plan.n run.steps) g (holds j) in
-        omega (arith, tells_low run.steps m.part m.body h.1, steps_most)
+    reply_told g = grind (arith, tells_low, holds j, steps_most)
 
 -- what the code of a step needs of these
 pub ruleset in_run = (steps_most, client_operation, client_best, request_places, reply_places, reply_told)

@@ -11,12 +11,7 @@ free t = is_empty t.held
 first_is : (i : ℕ) (l : List Slot) → first_from i l ≡ i + position_or_len free l
 unfolding first_from
 first_is i [] = omega arith
-first_is i (t ∷ l) = go (free t) (first_is (suc i) l)
-  where
-    go : (b : Bool) → first_from (suc i) l ≡ suc i + position_or_len free l
-        → cond b i (first_from (suc i) l) ≡ i + cond (not b) (1 + position_or_len free l) 0
-    go true e = omega arith
-    go false e = omega arith
+first_is i (t ∷ l) = grind (arith, first_is (suc i) l)
 
 module _ (l : List Slot) (r : Option ℕ) (e : r ≡ cond (ltb (position_or_len free l) (length l)) (Some (position_or_len free l)) None) where
   pub first_found : (j : ℕ) → r ≡ Some j → (first_from 0 l ≡ j) × (j < length l)
@@ -32,11 +27,4 @@ other p q = not (eqb q.0 p) && q.1.marked
 pub others_are : (p i : ℕ) (l : List Cabinet) → length (filter (other p) (enumerate_from i l)) ≡ others_from p i l
 unfolding others_from
 others_are p i [] = refl
-others_are p i (k ∷ l) = go (other p (i, k)) (rw add-one (others_are p (suc i) l))
-  where
-    rest : List (ℕ × Cabinet)
-    rest = filter (other p) (enumerate_from (i + 1) l)
-
-    go : (b : Bool) → length rest ≡ others_from p (suc i) l → length (cond b ((i, k) ∷ rest) rest) ≡ cond b 1 0 + others_from p (suc i) l
-    go true e = omega arith
-    go false e = omega arith
+others_are p i (k ∷ l) = grind (arith, add-one, others_are p (suc i) l)

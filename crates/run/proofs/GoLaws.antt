@@ -1,5 +1,6 @@
 -- A step that was let in is the step that is decided and put back, and its places are the run's. Assumes nothing.
 use Rattle.std.proofs.Common.{ℕ, ◌<◌, ◌≡◌, true, sym, ap, subst, ◌∙◌, arith}
+use Rattle.std.proofs.lemmas.Bool.Decides.{nat_tests}
 use Rattle.limits.specs.Limits.{most_cabinets}
 use Rattle.run.specs.Names.{Asked, Err, Ok, Refusal, Result, Run, Step}
 use Rattle.admit.specs.Admit.{admit_of}
@@ -13,17 +14,16 @@ use Rattle.run.proofs.FrameLaws.{step_is_go}
 module _ (run : Run) (s : Step) (r : Result Asked Refusal) (by : r ≡ admit_of run.plan.n run.steps s) where
   pub barred : undamaged run ≡ true → (why : Refusal) → r ≡ Err why → step_of run s ≡ record { answer = Err why; run = run }
   unfolding go_of decide_of
-  barred whole why e = step_is_go run s whole ∙ ap (λ (x : Result Asked Refusal). put_back run (decide_of run x)) (sym by ∙ e)
+  barred whole why e = grind (arith, step_is_go)
 
   module _ (a : Asked) (e : r ≡ Ok a) where
     pub let_in : undamaged run ≡ true → (b : Asked) → a ≡ b → step_of run s ≡ stepped_of run b
     unfolding go_of
-    let_in whole b f =
-        step_is_go run s whole ∙ ap (λ (x : Result Asked Refusal). put_back run (decide_of run x)) (sym by ∙ e ∙ ap Ok f)
+    let_in whole b f = grind (arith, step_is_go)
 
     pub placed_in : (b : Asked) → a ≡ b → Placed run.plan.n (Ok b)
-    placed_in b f = subst (Placed run.plan.n) (sym by ∙ e ∙ ap Ok f) (admitted_placed run.plan.n run.steps s)
+    placed_in b f = grind (arith, admitted_placed)
 
 -- a cabinet of the line is one of the nine
 pub of_nine : (run : Run) → undamaged run ≡ true → (p : ℕ) → p < run.plan.n → p < most_cabinets
-of_nine run whole p l = omega (arith, l, (cabinets_range run whole).1)
+of_nine run whole p l = grind (arith, cabinets_range)

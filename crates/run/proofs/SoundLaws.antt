@@ -51,7 +51,7 @@ versions_sound plan steps i k = go (ltb i plan.n)
 
 module _ (run : Run) (sound : Sound run) where
   pub sound_plan : Quorums run.plan
-  sound_plan = let p = run.plan in quorums p.n p.k p.r p.b p (ruled_accepted p sound.ruled)
+  sound_plan = quorums _ _ _ _ run.plan (ruled_accepted run.plan sound.ruled)
 
   pub sound_client : (i : ℕ) → client_sound run.plan run.steps i (client_at run i) ≡ true
   unfolding client_at

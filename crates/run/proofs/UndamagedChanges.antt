@@ -1,5 +1,6 @@
 -- A change whose parts are sound leaves an undamaged run undamaged. Assumes nothing.
 use Rattle.std.proofs.Common.{ℕ, ◌+◌, ◌<◌, true, ◌≡◌, arith, set}
+use Rattle.std.proofs.lemmas.Bool.Decides.{nat_tests}
 use Rattle.limits.specs.Limits.{most_steps}
 use Rattle.run.specs.Names.{Change, Client, Decision, Deed, Entry, Outcome, Plan, Refusal, Run, Slot}
 use Rattle.types.specs.Parts.{empty_slot, no_cabinet}
@@ -59,26 +60,4 @@ module _ (run : Run) (sound : Sound run) where
 
   pub put_sound : run.steps < most_steps → (x : Decision) → Keeps run.plan next x → Sound (put_back run x).run
   unfolding changed
-  put_sound room x refused = sound
-  put_sound room x (of_client {i = i} {c = c} h) =
-      record { ruled = sound.ruled; steps = omega arith; clients = clients_set i c h; slots = slots_later; cabinets = cabinets_later }
-  put_sound room x (of_slot {j = j} {t = t} h) =
-      record { ruled = sound.ruled; steps = omega arith; clients = clients_later; slots = slots_set j t h; cabinets = cabinets_later }
-  put_sound room x (of_cabinet {p = p} {d = d} line h) =
-      record { ruled = sound.ruled; steps = omega arith; clients = clients_later; slots = slots_later; cabinets = cabinets_done p d line h }
-  put_sound room x (of_hearing {i = i} {j = j} {c = c} h) =
-      record {
-        ruled = sound.ruled;
-        steps = omega arith;
-        clients = clients_set i c h;
-        slots = slots_set j empty_slot (empty_sound run.plan.n next j);
-        cabinets = cabinets_later;
-      }
-  put_sound room x (of_offering {p = p} {j = j} {e = e} {t = t} line h s) =
-      record {
-        ruled = sound.ruled;
-        steps = omega arith;
-        clients = clients_later;
-        slots = slots_set j t s;
-        cabinets = cabinets_done p (Deed.Weigh e) line h;
-      }
+  put_sound room x k = grind (arith, clients_later, slots_later, cabinets_later, clients_set, slots_set, cabinets_done, empty_sound)

@@ -26,20 +26,8 @@ Fair plan steps c (Some Told.Wrote) = (c.work ≡ Work.SecondWrite) × (within_o
 Fair plan steps c (Some Told.ReadBack) = (c.work ≡ Work.SecondRead) × (within_of c.heard plan.n ≡ true)
 
 module _ (plan : Plan) (steps part : ℕ) (c : Client) where
-  stamp_fair : (r : Reading) (b : Body) → c.work ≡ Work.FirstWrite r → reading_in r ≡ true → within_of c.heard plan.n ≡ true
-      → Tells steps part b
-      → Fair plan steps c (told_stamp r b)
-  stamp_fair r b e k w t = grind (arith, entry_made)
-
-  entry_fair : (b : Body) → c.work ≡ Work.FirstRead → within_of c.heard plan.n ≡ true → Tells steps part b
-      → Fair plan steps c (told_entry b)
-  entry_fair b e w t = grind arith
-
-  taken_fair : (d : Option Told) (b : Body) → Fair plan steps c d → Fair plan steps c (told_taken d b)
-  taken_fair d b f = grind arith
-
   work_fair : (w : Work) (b : Body) → c.work ≡ w → work_sound plan c.heard w ≡ true → Tells steps part b → Fair plan steps c (told_by w b)
-  work_fair w b e h t = grind (arith, nat_tests, stamp_fair, entry_fair, taken_fair, heard_says)
+  work_fair w b e h t = grind (arith, nat_tests, entry_made, heard_says)
 
 told_fair : (plan : Plan) (steps i : ℕ) (c : Client) (m : Message) → client_sound plan steps i c ≡ true → Tells steps m.part m.body
     → Fair plan steps c (told_of c m)

@@ -99,12 +99,7 @@ plain = refl
 module _ (n k r b : ℕ) where
   pub start_undamaged : undamaged (start_of n k r b).run ≡ true
   unfolding start_of
-  start_undamaged = go _ refl
-    where
-      go : (x : Planned) → plan_of n k r b ≡ x → undamaged (start_by x).run ≡ true
-      go (Err Unplanned.OutOfRange) e = fresh_undamaged 2 0 0 0 (forgetful_plan 2 0 0 0) plain
-      go (Err Unplanned.TooSmall) e = fresh_undamaged 2 0 0 0 (forgetful_plan 2 0 0 0) plain
-      go (Ok p) e = fresh_undamaged n k r b p e
+  start_undamaged = grind (arith, fresh_undamaged, plain)
 
   start_shaped : Shaped (start_of n k r b).run
   unfolding start_of

@@ -1,11 +1,6 @@
 -- The public contract decides: any two results that it allows for the same arguments are equal, and so is every byte of the buffer. `Post` is
 -- the contract as the checker reads it in src/, so a weaker contract is refused here. Assumes nothing.
-use Prim.Native.Nat.{ℕ, ◌+◌}
-use native.Mathlib.Omega.{arith}
-use mathlib.Core.List.{List, ◌++◌}
-use mathlib.Core.Path.{◌≡◌, refl, sym, ◌∙◌, ap}
-use lib.ListN.{length, take, drop, take-append-drop}
-use lib.Seq.{length-take-le}
+use Rattle.std.proofs.Common.{ℕ, ◌+◌, arith, List, ◌++◌, ◌≡◌, refl, sym, ◌∙◌, ap, length, take, drop, take-append-drop, length-take-le}
 use Rattle.turns.specs.Names.{Run, Went}
 use Rattle.run.specs.Lists.{run_all}
 use Rattle.print.specs.Put.{put}

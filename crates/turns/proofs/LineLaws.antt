@@ -1,9 +1,5 @@
 -- Lines and steps, with one more at their end, and that bytes have one set of lines. Assumes nothing.
-use Prim.Native.Nat.{ℕ, suc, ◌+◌}
-use native.Mathlib.Omega.{arith}
-use mathlib.Core.List.{List, [], ◌∷◌, ◌++◌, append_assoc, append-nil}
-use mathlib.Core.Path.{◌≡◌, refl, sym, ◌∙◌, ap}
-use lib.ListN.{length}
+use Rattle.std.proofs.Common.{ℕ, suc, ◌+◌, arith, List, [], ◌∷◌, ◌++◌, append_assoc, append-nil, ◌≡◌, refl, sym, ◌∙◌, ap, length}
 use Rattle.turns.specs.Names.{Run, Step}
 use Rattle.run.specs.Lists.{run_all}
 use Rattle.run.specs.Steps.{step_of}

@@ -1,11 +1,5 @@
 -- What holds between two rows of a part, where each whole row is answered as its step is. Assumes nothing.
-use Prim.Native.Nat.{ℕ, ◌+◌, ◌-◌, ◌*◌, ◌^◌, ◌≤◌, ◌<◌}
-use native.Mathlib.Omega.{arith}
-use mathlib.Core.Bool.{true}
-use mathlib.Core.List.{List, [], ◌∷◌, ◌++◌}
-use mathlib.Core.Path.{◌≡◌, refl, sym, ◌∙◌, ap}
-use lib.ListN.{length, take, drop, length-append, take-append-drop}
-use lib.Seq.{take-add, drop-drop}
+use Rattle.std.proofs.Common.{ℕ, ◌+◌, ◌-◌, ◌*◌, ◌^◌, ◌≤◌, ◌<◌, arith, true, List, [], ◌∷◌, ◌++◌, ◌≡◌, refl, sym, ◌∙◌, ap, length, take, drop, length-append, take-append-drop, take-add, drop-drop}
 use Rattle.turns.specs.Names.{Run, Step, Stepped}
 use Rattle.run.specs.Lists.{run_all}
 use Rattle.run.specs.Steps.{step_of}
