@@ -1,13 +1,13 @@
 -- What an undamaged run tells of the places and numbers in it: places within the arrays, and numbers so small that no sum of a step wraps.
 -- Assumes nothing.
-use Rattle.std.proofs.Common.{ℕ, ◌≤◌, ◌<◌, true, ◌≡◌, subst, arith, get_or}
+use Rattle.std.proofs.Common.{ℕ, ◌≤◌, ◌<◌, true, ◌≡◌, arith, get_or}
 use Rattle.std.proofs.lemmas.Bool.Decides.{nat_tests}
 use Rattle.limits.specs.Limits.{most_cabinets, most_clients, most_steps}
 use Rattle.run.specs.Names.{Body, Entry, Held, Message, Run}
 use Rattle.types.specs.Parts.{empty_slot, fresh_client}
 use Rattle.client.specs.Hear.{told_counter}
 use Rattle.guard.specs.Damage.{stamp_sound, entry_sound}
-use Rattle.guard.proofs.DamageLaws.{stamp_says, entry_says, client_says}
+use Rattle.guard.proofs.DamageLaws.{stamp_says, client_says}
 use Rattle.guard.proofs.MessageLaws.{Tells, HeldIs, address_says, slot_says}
 use Rattle.run.specs.Steps.{client_at, slot_at}
 use Rattle.run.specs.Undamaged.{undamaged}

@@ -1,5 +1,5 @@
 -- Laws of the two scans, for a free slot and for marked cabinets: what is counted from a place on is what std finds in the list. Assumes nothing.
-use Rattle.std.proofs.Common.{ℕ, suc, ◌+◌, ◌≡◌, ◌≤◌, ◌<◌, Bool, true, false, cond, not, ◌&&◌, List, [], ◌∷◌, Option, Some, None, length, refl, arith, add-one, eqb, ltb}
+use Rattle.std.proofs.Common.{ℕ, suc, ◌+◌, ◌≡◌, ◌≤◌, ◌<◌, Bool, cond, not, ◌&&◌, List, [], ◌∷◌, Option, Some, None, length, refl, arith, add-one, eqb, ltb}
 use Rattle.std.proofs.lemmas.Bool.Decides.{nat_tests}
 use Rattle.std.specs.List.{position_or_len, filter, enumerate_from}
 use Rattle.run.specs.Names.{Cabinet, Slot}

@@ -1,18 +1,17 @@
 -- Where a step makes its change: at most at one client or one cabinet, and one slot, by the step or by its message. Assumes nothing.
-use Rattle.std.proofs.Common.{ℕ, Bool, true, false, cond, ◌||◌, List, ◌≡◌, refl, leb, ltb, get_or, arith}
+use Rattle.std.proofs.Common.{ℕ, Bool, true, cond, ◌||◌, List, ◌≡◌, refl, ltb, get_or, arith}
 use Rattle.std.proofs.lemmas.Bool.Decides.{nat_tests}
 use Rattle.limits.specs.Limits.{most_cabinets, most_clients, most_slots}
-use Rattle.run.specs.Names.{Asked, Body, Change, Client, Decision, Deed, Entry, Err, Heard, Held, Message, None, Ok, Option, Outcome, Plan, Power, Refusal, Result, Run, Sight, Slot, Some, Standing, Step, Told, Work}
+use Rattle.run.specs.Names.{Asked, Body, Change, Client, Decision, Deed, Entry, Err, Heard, Held, Message, Ok, Option, Outcome, Plan, Power, Refusal, Result, Run, Sight, Slot, Standing, Step, Told, Work}
 use Rattle.cabinet.specs.Cabinets.{goes_back}
-use Rattle.heard.specs.Heard.{count_of}
-use Rattle.types.specs.Parts.{empty_slot, stored_in, sight_of}
-use Rattle.client.specs.Begin.{standing_of, begins_by, begins_of, sends_by, sends_of, leaves_by, leaves_of}
-use Rattle.client.specs.Hear.{told_of, first_write, first_read, second, hear_by, hears_of}
+use Rattle.types.specs.Parts.{empty_slot, stored_in}
+use Rattle.client.specs.Begin.{begins_by, begins_of, sends_by, sends_of, leaves_by, leaves_of}
+use Rattle.client.specs.Hear.{first_write, first_read, second, hear_by, hears_of}
 use Rattle.admit.specs.Admit.{admit_of}
 use Rattle.server.specs.Deeds.{stops_when, rolls_of}
 use Rattle.server.specs.Requests.{answers_by, answers_when, answers_of}
 use Rattle.run.specs.Gather.{first_from, others_from}
-use Rattle.run.specs.Steps.{client_at, slot_at, cabinet_at, loses_by, delivers_in, decide_of}
+use Rattle.run.specs.Steps.{slot_at, cabinet_at, loses_by, delivers_in, decide_of}
 
 -- the places of the client, the cabinet and the slot that a step may change; 8, 9 or 64, past the end, where it changes none
 pub record Met : Type 0 where
@@ -31,10 +30,6 @@ pub data Meets (may : Deed → Type 0) (at : Met) : Decision → Type 0 where
   on_cabinet : {o : Outcome} {d : Deed} → may d → Meets may at (Decision.Yes o (Change.OfCabinet at.cabinet d))
   on_hearing : {o : Outcome} {c : Client} → Meets may at (Decision.Yes o (Change.Hearing at.client c at.slot))
   on_offering : {o : Outcome} {e : Entry} {t : Slot} → Meets may at (Decision.Yes o (Change.Offering at.cabinet e at.slot t))
-
-pub either : (P : Decision → Type 0) (t : Bool) (x y : Decision) → P x → P y → P (cond t x y)
-either P true x y a b = a
-either P false x y a b = b
 
 module _ (may : Deed → Type 0) (at : Met) where
   begins_at : (g : Standing) (c : Client) (w : Work) → Meets may at (begins_by g at.client c w)

@@ -1,14 +1,12 @@
 -- What a rollback that was let in comes to: nowhere, not, or to the older version. Assumes nothing.
-use Rattle.std.proofs.Common.{ℕ, ◌+◌, ◌≡◌, Bool, true, false, ◌||◌, List, get_or, set, sym, ap, ◌∙◌, ltb, arith}
-use Rattle.std.proofs.lemmas.Bool.Decides.{nat_tests}
-use Rattle.run.specs.Names.{Asked, Cabinet, Change, Client, Decision, Deed, Err, Ok, Outcome, Refusal, Result, Run, Slot, Step, Stepped}
+use Rattle.std.proofs.Common.{ℕ, ◌+◌, ◌≡◌, true, false, ◌||◌, List, get_or, set, ltb, arith}
+use Rattle.run.specs.Names.{Asked, Cabinet, Client, Err, Ok, Outcome, Refusal, Result, Run, Slot, Step, Stepped}
 use Rattle.cabinet.specs.Cabinets.{goes_back, rolled_back}
 use Rattle.types.specs.Parts.{no_cabinet, stored_in}
 use Rattle.server.specs.Deeds.{rolls_of, deed_of}
 use Rattle.run.specs.Gather.{others_from}
-use Rattle.run.specs.Steps.{cabinet_at, decide_of, done_at, changed, put_back, go_of, step_of}
+use Rattle.run.specs.Steps.{cabinet_at, decide_of, done_at, changed, go_of, step_of}
 use Rattle.run.specs.Undamaged.{undamaged}
-use Rattle.run.proofs.FrameLaws.{step_is_go}
 use Rattle.run.proofs.MeetLaws.{asked_of}
 
 abbrev pub refused : Run → Refusal → Stepped

@@ -1,17 +1,15 @@
 -- A run's lists have the lengths of its arrays, and every step keeps them so. Assumes nothing.
-use Rattle.std.proofs.Common.{ℕ, ◌<◌, Bool, true, false, cond, List, ◌≡◌, refl, ap, ◌∙◌, arith, eqb, length, get_or, set, length-take, length-drop, length-set, length-append, get_or-set_same, get_or-set_other, eqb-true}
+use Rattle.std.proofs.Common.{ℕ, ◌<◌, Bool, List, ◌≡◌, refl, ap, ◌∙◌, arith, length, get_or, length-take, length-drop, length-set, length-append, get_or-set_same, get_or-set_other}
 use Rattle.std.proofs.lemmas.Bool.Decides.{nat_tests}
 use lib.ListN.{length-replicate, get_or-replicate}
-use borrow.Author.Tests.{eqb-false}
 use Rattle.limits.specs.Limits.{most_cabinets, most_clients, most_slots, most_versions}
-use Rattle.run.specs.Names.{Cabinet, Change, Deed, Entry, Plan, Run, Step}
-use Rattle.cabinet.specs.Cabinets.{fresh_cabinet, present_of, taken, offered, restarted, rolled_back}
+use Rattle.run.specs.Names.{Cabinet, Change, Deed, Plan, Run, Step}
+use Rattle.cabinet.specs.Cabinets.{fresh_cabinet, taken, offered, restarted, rolled_back}
 use Rattle.cabinet.proofs.CabinetLaws.{rolled_by}
-use Rattle.cabinet.specs.Entries.{takes}
 use Rattle.types.specs.Parts.{no_cabinet}
 use Rattle.server.specs.Deeds.{deed_of}
 use Rattle.run.specs.Start.{fresh_run}
-use Rattle.run.specs.Steps.{done_at, changed, go_of, step_of}
+use Rattle.run.specs.Steps.{done_at, changed, step_of}
 use Rattle.run.proofs.FrameLaws.{go_by, step_by, step_lengths}
 
 -- every cabinet of the nine has its eight places

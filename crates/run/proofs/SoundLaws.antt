@@ -1,10 +1,10 @@
 -- What an undamaged run says of each of its parts. Assumes nothing.
-use Rattle.std.proofs.Common.{ℕ, ◌≤◌, Bool, true, false, cond, ◌&&◌, ◌≡◌, refl, arith, leb, ltb, leb-true, le-leb, get_or}
+use Rattle.std.proofs.Common.{ℕ, ◌≤◌, Bool, true, false, cond, ◌≡◌, refl, arith, ltb, get_or}
 use Rattle.std.proofs.lemmas.Bool.Decides.{nat_tests}
 use Rattle.limits.specs.Limits.{most_steps}
 use Rattle.run.specs.Names.{Cabinet, Plan, Run}
 use Rattle.plan.specs.Rule.{is_ruled}
-use Rattle.plan.proofs.RuleLaws.{both, Quorums, quorums}
+use Rattle.plan.proofs.RuleLaws.{Quorums, quorums}
 use Rattle.plan.proofs.RuledLaws.{ruled_accepted}
 use Rattle.cabinet.specs.Cabinets.{present_of}
 use Rattle.cabinet.specs.Entries.{factory_entry, is_factory}
@@ -29,7 +29,7 @@ undamaged_says run h = grind (arith, nat_tests)
 
 pub undamaged_made : (run : Run) → Sound run → undamaged run ≡ true
 unfolding undamaged rest_sound
-undamaged_made run h = grind (arith, nat_tests)
+undamaged_made run h = joined _ _ (grind (arith, nat_tests)) h.cabinets
 
 -- every version of a cabinet is sound
 versions_sound : (plan : Plan) (steps i : ℕ) (k : Cabinet) → cabinet_sound plan steps i k ≡ true

@@ -1,13 +1,13 @@
 -- Whatever a step does to a cabinet of the line, a sound record stays sound. Assumes nothing.
-use Rattle.std.proofs.Common.{ℕ, zero, suc, ◌+◌, ◌-◌, ◌<◌, min, Bool, true, false, cond, List, ◌∷◌, ◌≡◌, refl, sym, ◌∙◌, arith, zero-add, length, get_or, drop, replicate, length-take, get_or-take, get_or-drop, lt-ltb}
+use Rattle.std.proofs.Common.{ℕ, zero, suc, ◌+◌, ◌-◌, ◌<◌, min, Bool, true, List, ◌∷◌, ◌≡◌, arith, zero-add, length, get_or, drop, replicate, length-take, get_or-take, get_or-drop}
 use Rattle.std.proofs.lemmas.Bool.Decides.{nat_tests}
 use Rattle.limits.specs.Limits.{most_versions}
 use Rattle.run.specs.Names.{Cabinet, Deed, Entry, Plan}
-use Rattle.cabinet.specs.Cabinets.{present_of, added, taken, offered, restarted, older_from, older_by, as_built, rolled_back}
-use Rattle.cabinet.specs.Entries.{factory_entry, takes}
+use Rattle.cabinet.specs.Cabinets.{added, taken, offered, restarted, older_from, rolled_back}
+use Rattle.cabinet.specs.Entries.{factory_entry}
 use Rattle.cabinet.proofs.CabinetLaws.{rolled_by}
 use Rattle.cabinet.proofs.ListLaws.{getD_filled}
-use Rattle.types.specs.Parts.{stored_in, is_forgetful}
+use Rattle.types.specs.Parts.{stored_in}
 use Rattle.server.specs.Deeds.{deed_of}
 use Rattle.guard.specs.All.{all_from}
 use Rattle.guard.specs.Damage.{entry_sound, version_sound, record_sound, cabinet_sound}

@@ -1,13 +1,12 @@
 -- A client that begins or leaves stays sound. Assumes nothing.
-use Rattle.std.proofs.Common.{ℕ, ◌+◌, ◌≤◌, true, ◌≡◌, refl, arith}
-use Rattle.std.proofs.lemmas.Bool.Decides.{nat_tests}
-use Rattle.run.specs.Names.{Client, Plan, Standing, Work}
+use Rattle.std.proofs.Common.{ℕ, ◌+◌, ◌≤◌, true, ◌≡◌, arith}
+use Rattle.run.specs.Names.{Client, Plan, Work}
 use Rattle.plan.proofs.RuleLaws.{Quorums}
 use Rattle.heard.specs.Heard.{none_heard}
 use Rattle.heard.proofs.HeardLaws.{none_within, none_count}
-use Rattle.client.specs.Begin.{standing_of, opened, begins_by, begins_of, gone, leaves_by, leaves_of}
+use Rattle.client.specs.Begin.{begins_of, leaves_of}
 use Rattle.guard.specs.Damage.{heard_sound, work_sound, client_sound}
-use Rattle.guard.proofs.DamageLaws.{joined, factory_made, heard_made, client_says, client_made}
+use Rattle.guard.proofs.DamageLaws.{factory_made, heard_made, client_says, client_made}
 use Rattle.admit.proofs.AdmitLaws.{FirstIn}
 use Rattle.run.proofs.UndamagedChanges.{Keeps, refused, of_client}
 

@@ -1,15 +1,15 @@
 -- A client that hears a reply stays sound. Assumes nothing.
-use Rattle.std.proofs.Common.{ℕ, ◌+◌, ◌<◌, Bool, true, false, cond, ◌≡◌, refl, ap, ◌∙◌, arith, eqb, leb, leb-false}
+use Rattle.std.proofs.Common.{ℕ, ◌+◌, ◌<◌, true, ◌≡◌, arith}
 use Rattle.std.proofs.lemmas.Bool.Decides.{nat_tests}
 use Rattle.limits.specs.Limits.{most_clients}
 use Rattle.run.specs.Names.{Body, Client, Ending, Entry, Heard, Message, None, Option, Plan, Reading, Some, Told, Work}
-use Rattle.plan.proofs.RuleLaws.{both, Quorums}
-use Rattle.cabinet.specs.Entries.{factory_entry, reading_in, takes}
+use Rattle.plan.proofs.RuleLaws.{Quorums}
+use Rattle.cabinet.specs.Entries.{reading_in}
 use Rattle.heard.specs.Heard.{none_heard, with_of, count_of, within_of}
 use Rattle.heard.proofs.HeardLaws.{with_within}
-use Rattle.client.specs.Hear.{told_stamp, told_entry, told_taken, told_by, awaits, told_of, best_of, chosen_by, counted, ended, first_write, first_read, second, hear_by, hears_of}
+use Rattle.client.specs.Hear.{told_by, told_of, best_of, chosen_by, first_write, first_read, second, hear_by, hears_of}
 use Rattle.guard.specs.Damage.{entry_sound, address_sound, work_sound, client_sound}
-use Rattle.guard.proofs.DamageLaws.{joined, stamp_says, stamp_made, entry_says, entry_made, entry_mono, factory_made, heard_says, heard_made, client_says, client_made}
+use Rattle.guard.proofs.DamageLaws.{stamp_says, stamp_made, entry_says, entry_made, entry_mono, factory_made, heard_says, heard_made, client_says, client_made}
 use Rattle.guard.proofs.MessageLaws.{Tells, address_says}
 use Rattle.run.proofs.UndamagedChanges.{Keeps, of_slot, of_hearing, empty_sound}
 use Rattle.run.proofs.UndamagedClients.{none_sound}

@@ -1,19 +1,19 @@
 -- Every step keeps an undamaged run undamaged, and a fresh run is: "Runs reached from a fresh one always pass". Assumes nothing.
-use Rattle.std.proofs.Common.{ℕ, ◌+◌, ◌<◌, Bool, true, false, cond, ◌||◌, List, [], ◌∷◌, ◌≡◌, refl, arith, ltb}
+use Rattle.std.proofs.Common.{ℕ, ◌+◌, ◌<◌, true, List, [], ◌∷◌, ◌≡◌, refl, arith}
 use Rattle.std.proofs.lemmas.Bool.Decides.{nat_tests}
 use Rattle.limits.specs.Limits.{most_cabinets, most_clients, most_slots, most_versions}
 use Rattle.run.specs.Names.{Refusal, Asked, Err, Held, Ok, Plan, Planned, Power, Result, Run, Sight, Step, Unplanned}
 use Rattle.plan.specs.Rule.{in_range, chosen, plan_of, forgetful_plan}
 use Rattle.plan.proofs.RuledLaws.{accepted_ruled}
-use Rattle.cabinet.specs.Cabinets.{fresh_cabinet, has_version}
+use Rattle.cabinet.specs.Cabinets.{fresh_cabinet}
 use Rattle.cabinet.specs.Entries.{factory_entry}
-use Rattle.types.specs.Parts.{fresh_client, empty_slot, sight_of, stored_in}
+use Rattle.types.specs.Parts.{fresh_client, empty_slot, sight_of}
 use Rattle.admit.specs.Admit.{placed}
 use Rattle.server.specs.Deeds.{stops_when, rolls_of}
 use Rattle.guard.specs.All.{all_from}
-use Rattle.guard.specs.Damage.{kept_sound, version_sound, record_sound, is_fresh, cabinet_sound, client_sound, slot_sound}
+use Rattle.guard.specs.Damage.{kept_sound, version_sound, record_sound, cabinet_sound, client_sound, slot_sound}
 use Rattle.guard.proofs.AllLaws.{all_replicate}
-use Rattle.guard.proofs.DamageLaws.{factory_made, version_factory, kept_made, record_made, fresh_made, client_made}
+use Rattle.guard.proofs.DamageLaws.{factory_made, version_factory, fresh_made, client_made}
 use Rattle.guard.proofs.MessageLaws.{HeldIs, slot_says}
 use Rattle.run.specs.Lists.{run_all}
 use Rattle.run.specs.Start.{fresh_run, start_by, start_of}
@@ -21,7 +21,6 @@ use Rattle.run.specs.Steps.{client_at, slot_at, cabinet_at, delivers_in, decide_
 use Rattle.run.specs.Undamaged.{undamaged}
 use Rattle.admit.proofs.AdmitLaws.{Placed, range_placed, admitted_by}
 use Rattle.run.proofs.FrameLaws.{step_by}
-use Rattle.run.proofs.MeetLaws.{either}
 use Rattle.run.proofs.ShapeLaws.{Shaped, fresh_shaped, step_shaped}
 use Rattle.run.proofs.SoundLaws.{Sound, undamaged_says, undamaged_made, sound_plan, sound_client, sound_slot, sound_present}
 use Rattle.run.proofs.UndamagedChanges.{Keeps, refused, of_cabinet, empty_sound, put_sound}

@@ -1,15 +1,14 @@
 -- A request that is sent and a reply to it are sound messages. Assumes nothing.
-use Rattle.std.proofs.Common.{ℕ, ◌+◌, ◌<◌, Bool, true, false, ◌≡◌, refl, arith, leb}
+use Rattle.std.proofs.Common.{ℕ, ◌+◌, ◌<◌, Bool, true, ◌≡◌, arith}
 use Rattle.std.proofs.lemmas.Bool.Decides.{nat_tests}
-use Rattle.limits.specs.Limits.{most_clients, most_slots}
-use Rattle.run.specs.Names.{Body, Client, Entry, Held, Message, Plan, Power, Sight, Standing, Work}
-use Rattle.client.specs.Begin.{standing_of, part_of, request_body, request_of, request_slot, sends_by, sends_of}
-use Rattle.server.specs.Requests.{reply_slot, answers_by, answers_when, answers_of}
+use Rattle.limits.specs.Limits.{most_clients}
+use Rattle.run.specs.Names.{Body, Client, Entry, Held, Message, Plan, Sight, Standing, Work}
+use Rattle.client.specs.Begin.{standing_of, part_of, request_body, request_slot, sends_of}
+use Rattle.server.specs.Requests.{reply_slot, answers_by, answers_of}
 use Rattle.guard.specs.Damage.{entry_sound, address_sound, slot_sound, client_sound}
 use Rattle.guard.proofs.DamageLaws.{stamp_mono, entry_says, entry_mono, client_says}
 use Rattle.guard.proofs.MessageLaws.{Asks, Tells, address_says, address_made, slot_made}
 use Rattle.run.specs.Steps.{loses_by}
-use Rattle.run.proofs.MeetLaws.{either}
 use Rattle.run.proofs.UndamagedChanges.{Keeps, refused, of_slot, of_offering, empty_sound}
 
 -- ---- a request
