@@ -26,10 +26,8 @@ module _ (steps : ℕ) where
       short i low = omega (arith, simp length-take at low)
 
       here : (i : ℕ) → i < most_versions → version_sound steps (min (kept + 1) most_versions) i (get_or (e ∷ v) i factory_entry) ≡ true
-      here zero l = version_made steps (min (kept + 1) most_versions) 0 e h (omega arith)
-      here (suc i) l =
-          version_moved steps kept (min (kept + 1) most_versions) i (suc i) (get_or v i factory_entry) (λ m. omega arith)
-          (all_zero_read (version_sound steps kept) i v all factory_entry (version_factory steps kept i))
+      here zero l = grind (arith, version_made)
+      here (suc i) l = grind (arith, version_moved, all_zero_read, version_factory)
 
   taken_sound : (stored : Bool) (e : Entry) (k : Cabinet) → entry_sound steps e ≡ true → record_sound steps stored k ≡ true
       → record_sound steps stored (taken stored e k) ≡ true

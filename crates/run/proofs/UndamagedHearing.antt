@@ -47,32 +47,22 @@ chosen_sound : (steps i : ℕ) (best : Entry) (r : Reading) → i < most_clients
 chosen_sound steps i best r who h k = grind (arith, stamp_says, entry_says, entry_made, stamp_made)
 
 module _ (plan : Plan) (steps i j : ℕ) (c : Client) (q : Quorums plan) (who : i < most_clients) (sound : client_sound plan steps i c ≡ true) where
-  -- the part goes on
-  counted_sound : (h : Heard) (best : Entry) → work_sound plan h c.work ≡ true → entry_sound steps best ≡ true
-      → client_sound plan (steps + 1) i (record { operation = c.operation; work = c.work; heard = h; best = best }) ≡ true
-  counted_sound h best w e = grind (arith, client_says, client_made, entry_mono)
-
-  -- the part ends
-  ended_sound : (next : Work) (best : Entry) → work_sound plan none_heard next ≡ true → entry_sound (steps + 1) best ≡ true
-      → client_sound plan (steps + 1) i (record { operation = c.operation; work = next; heard = none_heard; best = best }) ≡ true
-  ended_sound next best w e = grind (arith, client_says, client_made)
-
   module _ (h : Heard) (near : within_of h plan.n ≡ true) where
     first_write_keeps : (r : Reading) (best : Entry) → c.work ≡ Work.FirstWrite r → reading_in r ≡ true → entry_sound steps best ≡ true
         → Keeps plan (steps + 1) (first_write plan i j c h r best)
     unfolding first_write
-    first_write_keeps r best w k e = grind (arith, nat_tests, of_hearing, ended_sound, counted_sound, none_sound, chosen_sound, heard_made)
+    first_write_keeps r best w k e = grind (arith, nat_tests, of_hearing, client_says, client_made, entry_mono, none_sound, chosen_sound, heard_made)
 
     first_read_keeps : (best : Entry) → c.work ≡ Work.FirstRead → entry_sound steps best ≡ true
         → Keeps plan (steps + 1) (first_read plan i j c h best)
     unfolding first_read
-    first_read_keeps best w e = grind (arith, nat_tests, of_hearing, ended_sound, counted_sound, none_sound, entry_mono, heard_made)
+    first_read_keeps best w e = grind (arith, nat_tests, of_hearing, client_says, client_made, entry_mono, none_sound, heard_made)
 
     -- both second parts wait for the write quorum
     second_keeps : (how : Ending) → (count_of h < plan.write → work_sound plan h c.work ≡ true)
         → Keeps plan (steps + 1) (second plan i j c h how)
     unfolding second
-    second_keeps how w = grind (arith, nat_tests, of_hearing, ended_sound, counted_sound, factory_made, client_says)
+    second_keeps how w = grind (arith, nat_tests, of_hearing, client_says, client_made, entry_mono, factory_made)
 
 module _ (plan : Plan) (steps j : ℕ) (c : Client) (m : Message) (q : Quorums plan) (sound : client_sound plan steps m.client c ≡ true) (address : address_sound plan.n steps m ≡ true) where
   abbrev next : Heard

@@ -44,17 +44,14 @@ module _ (run : Run) (sound : Sound run) where
   asked_keeps : (a : Result Asked Refusal) → Placed run.plan.n a → Keeps run.plan (run.steps + 1) (decide_of run a)
   unfolding decide_of
   asked_keeps (Err why) p = refused
-  asked_keeps (Ok (Asked.Begins i w)) p =
-      begins_keeps run.plan run.steps i (client_at run i) (sound_plan run sound) (sound_client run sound i) w p.1
-  asked_keeps (Ok (Asked.Leaves i)) p =
-      leaves_keeps run.plan run.steps i (client_at run i) (sound_plan run sound) (sound_client run sound i)
-  asked_keeps (Ok (Asked.Sends i k)) p = sends_keeps run.plan run.steps i k (client_at run i) _ p.0 p.1 (sound_client run sound i)
-  asked_keeps (Ok (Asked.Delivers j)) p =
-      delivers_keep j (slot_at run j).held (slot_says run.plan.n run.steps j (slot_at run j) (sound_slot run sound j))
-  asked_keeps (Ok (Asked.Loses j)) p = loses_keeps run.plan (run.steps + 1) j (slot_at run j).held
-  asked_keeps (Ok (Asked.Stops k)) p = stops_keep run.plan (run.steps + 1) k (cabinet_at run k).power p
+  asked_keeps (Ok (Asked.Begins i w)) p = grind (arith, begins_keeps, sound_plan, sound_client)
+  asked_keeps (Ok (Asked.Leaves i)) p = grind (arith, leaves_keeps, sound_plan, sound_client)
+  asked_keeps (Ok (Asked.Sends i k)) p = grind (arith, sends_keeps, sound_client)
+  asked_keeps (Ok (Asked.Delivers j)) p = delivers_keep j _ (slot_says _ _ j _ (sound_slot run sound j))
+  asked_keeps (Ok (Asked.Loses j)) p = loses_keeps _ _ j _
+  asked_keeps (Ok (Asked.Stops k)) p = stops_keep _ _ k _ p
   asked_keeps (Ok (Asked.Restarts k)) p = of_cabinet p tt
-  asked_keeps (Ok (Asked.RollsBack k j)) p = rolls_keep run.plan (run.steps + 1) k j (sight_of (cabinet_at run k)) _ p.0
+  asked_keeps (Ok (Asked.RollsBack k j)) p = rolls_keep _ _ k j _ _ p.0
 
 go_undamaged : (run : Run) (s : Step) → undamaged run ≡ true → undamaged (go_of run s).run ≡ true
 unfolding go_of decide_of
@@ -83,9 +80,7 @@ fresh_undamaged n k r b p e =
     (record {
       ruled = accepted_ruled n k r b p e;
       steps = omega arith;
-      clients =
-          all_replicate (client_sound p 0) 0 most_clients fresh_client
-          (λ i. client_made p 0 i fresh_client (omega arith) (factory_made 0) refl);
+      clients = all_replicate (client_sound p 0) 0 most_clients fresh_client (λ i. grind (arith, client_made, factory_made));
       slots = all_replicate (slot_sound p.n 0) 0 most_slots empty_slot (λ j. empty_sound p.n 0 j);
       cabinets = all_replicate (cabinet_sound p 0) 0 most_cabinets fresh_cabinet (λ i. fresh_cabinet_sound p i);
     })
@@ -125,10 +120,7 @@ pub record Whole (run : Run) : Type 0 where
 pub step_whole : (run : Run) (s : Step) → Whole run → Whole (step_of run s).run
 step_whole run s w = record { shaped = step_shaped run s w.shaped; sound = step_undamaged run s w.sound }
 
-runs_whole : (run : Run) (ss : List Step) → Whole run → Whole (run_all run ss)
-runs_whole = all_by Whole step_whole
-
 -- a run that any list of steps reaches from a started one
 pub reached : (n k r b : ℕ) (ss : List Step) → Whole (run_all (start_of n k r b).run ss)
 reached n k r b ss =
-    runs_whole (start_of n k r b).run ss (record { shaped = start_shaped n k r b; sound = start_undamaged n k r b })
+    all_by Whole step_whole (start_of n k r b).run ss (record { shaped = start_shaped n k r b; sound = start_undamaged n k r b })
