@@ -1,5 +1,5 @@
 -- A change whose parts are sound leaves an undamaged run undamaged. Assumes nothing.
-use Rattle.std.proofs.Common.{ℕ, ◌+◌, ◌<◌, true, ◌≡◌, arith, set}
+use Rattle.std.proofs.Common.{ℕ, ◌+◌, ◌<◌, true, ◌≡◌, arith}
 use Rattle.limits.specs.Limits.{most_steps}
 use Rattle.run.specs.Names.{Change, Client, Decision, Deed, Entry, Outcome, Plan, Refusal, Run, Slot}
 use Rattle.types.specs.Parts.{empty_slot, no_cabinet}

@@ -5,7 +5,7 @@ use Rattle.limits.specs.Limits.{most_clients}
 use Rattle.run.specs.Names.{Body, Client, Ending, Entry, Heard, Message, None, Option, Plan, Reading, Some, Told, Work}
 use Rattle.plan.proofs.RuleLaws.{Quorums}
 use Rattle.cabinet.specs.Entries.{reading_in}
-use Rattle.heard.specs.Heard.{none_heard, with_of, count_of, within_of}
+use Rattle.heard.specs.Heard.{with_of, count_of, within_of}
 use Rattle.heard.proofs.HeardLaws.{with_within}
 use Rattle.client.specs.Hear.{told_by, told_of, best_of, chosen_by, first_write, first_read, second, hear_by, hears_of}
 use Rattle.guard.specs.Damage.{entry_sound, address_sound, work_sound, client_sound}

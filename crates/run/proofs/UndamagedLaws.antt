@@ -7,7 +7,7 @@ use Rattle.plan.specs.Rule.{in_range, chosen, plan_of, forgetful_plan}
 use Rattle.plan.proofs.RuledLaws.{accepted_ruled}
 use Rattle.cabinet.specs.Cabinets.{fresh_cabinet}
 use Rattle.cabinet.specs.Entries.{factory_entry}
-use Rattle.types.specs.Parts.{fresh_client, empty_slot, sight_of}
+use Rattle.types.specs.Parts.{fresh_client, empty_slot}
 use Rattle.admit.specs.Admit.{placed}
 use Rattle.server.specs.Deeds.{stops_when, rolls_of}
 use Rattle.guard.specs.All.{all_from}
@@ -17,7 +17,7 @@ use Rattle.guard.proofs.DamageLaws.{factory_made, version_factory, fresh_made, c
 use Rattle.guard.proofs.MessageLaws.{HeldIs, slot_says}
 use Rattle.run.specs.Lists.{run_all}
 use Rattle.run.specs.Start.{fresh_run, start_by, start_of}
-use Rattle.run.specs.Steps.{client_at, slot_at, cabinet_at, delivers_in, decide_of, put_back, go_of, step_of}
+use Rattle.run.specs.Steps.{delivers_in, decide_of, put_back, go_of, step_of}
 use Rattle.run.specs.Undamaged.{undamaged}
 use Rattle.admit.proofs.AdmitLaws.{Placed, range_placed, admitted_by}
 use Rattle.run.proofs.FrameLaws.{step_by}
