@@ -1,7 +1,7 @@
 -- The public contract decides, and it asks nothing of its caller: any two results that it allows for the same arguments are equal, and it
 -- requires nothing. `Post` and `Pre` are the contract as the checker reads it in src/, so a weaker one is refused here, and one that asks for
 -- something. Assumes nothing.
-use mathlib.Core.Path.{◌≡◌, sym, ◌∙◌}
+use Rattle.std.proofs.Common.{◌≡◌, sym, ◌∙◌}
 use Rattle.admit.specs.Names.{Asked, Refusal, Result}
 use Rattle.admit.proofs.admission.admit.Reads as admit
 

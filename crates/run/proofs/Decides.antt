@@ -1,9 +1,7 @@
 -- Each public contract decides, and it asks nothing of its caller: any two results that it allows for the same arguments are equal, the answer
 -- and every part of the next run, and it requires nothing. `Post` and `Pre` are the contract as the checker reads it in src/, so a weaker one is
 -- refused here, and one that asks for something. Assumes nothing.
-use Prim.Native.Nat.{ℕ}
-use mathlib.Core.Path.{◌≡◌, sym, ap, ◌∙◌}
-use mathlib.Core.Bool.{Bool}
+use Rattle.std.proofs.Common.{ℕ, ◌≡◌, sym, ap, ◌∙◌, Bool}
 use Rattle.run.specs.Names.{Answer, Sight, Started, Stepped}
 use Rattle.run.proofs.fresh.start.Reads as start
 use Rattle.run.proofs.gather.is_empty.Reads as is-empty

@@ -1,31 +1,24 @@
 -- What an undamaged run tells of the places and numbers in it: places within the arrays, and numbers so small that no sum of a step wraps.
 -- Assumes nothing.
-use Prim.Native.Nat.{ℕ, ◌≤◌, ◌<◌}
-use mathlib.Core.Bool.{true}
-use mathlib.Core.Path.{◌≡◌, subst}
-use native.Mathlib.Omega.{arith}
-use lib.ListN.{get_or}
+use Rattle.std.proofs.Common.{ℕ, ◌≤◌, ◌<◌, true, ◌≡◌, arith, get_or}
+use Rattle.std.proofs.lemmas.Bool.Decides.{nat_tests}
 use Rattle.limits.specs.Limits.{most_cabinets, most_clients, most_steps}
 use Rattle.run.specs.Names.{Body, Entry, Held, Message, Run}
 use Rattle.types.specs.Parts.{empty_slot, fresh_client}
 use Rattle.client.specs.Hear.{told_counter}
-use Rattle.guard.specs.Damage.{entry_sound}
-use Rattle.guard.proofs.DamageLaws.{stamp_says, entry_says, client_says}
+use Rattle.guard.specs.Damage.{stamp_sound, entry_sound}
+use Rattle.guard.proofs.DamageLaws.{stamp_says, client_says}
 use Rattle.guard.proofs.MessageLaws.{Tells, HeldIs, address_says, slot_says}
 use Rattle.run.specs.Steps.{client_at, slot_at}
 use Rattle.run.specs.Undamaged.{undamaged}
 use Rattle.run.proofs.SoundLaws.{undamaged_says, sound_plan, sound_client, sound_slot}
 
 pub entry_low : (steps : ℕ) (e : Entry) → entry_sound steps e ≡ true → e.stamp.counter ≤ steps
-entry_low steps e h = (stamp_says steps e.stamp (entry_says steps e h).0).0
+unfolding entry_sound stamp_sound
+entry_low steps e h = grind (arith, nat_tests)
 
 pub tells_low : (steps part : ℕ) (b : Body) → Tells steps part b → told_counter b ≤ steps
-tells_low steps part Body.AskStamp h = omega arith
-tells_low steps part Body.AskEntry h = omega arith
-tells_low steps part (Body.Offer e) h = absurd h
-tells_low steps part (Body.TellStamp s) h = (stamp_says steps s h.1).0
-tells_low steps part (Body.TellEntry e) h = entry_low steps e h.1
-tells_low steps part Body.Acknowledge h = omega arith
+tells_low steps part b h = grind (arith, stamp_says, entry_low)
 
 -- ---- of a run
 
@@ -42,36 +35,24 @@ module _ (run : Run) (whole : undamaged run ≡ true) where
   module _ (i : ℕ) where
     pub client_operation : (get_or run.clients i fresh_client).operation ≤ most_steps
     unfolding client_at
-    client_operation =
-        let c = client_says run.plan run.steps i (client_at run i) (sound_client run (undamaged_says run whole) i) in
-        omega (arith, c.0, steps_most)
+    client_operation = grind (arith, client_says, sound_client run (undamaged_says run whole) i, steps_most)
 
     pub client_best : (get_or run.clients i fresh_client).best.stamp.counter ≤ most_steps
     unfolding client_at
-    client_best =
-        let c = client_says run.plan run.steps i (client_at run i) (sound_client run (undamaged_says run whole) i) in
-        omega (arith, entry_low run.steps (client_at run i).best c.1, steps_most)
+    client_best = grind (arith, client_says, sound_client run (undamaged_says run whole) i, steps_most, entry_low)
 
   module _ (j : ℕ) (m : Message) where
     pub request_places : (get_or run.slots j empty_slot).held ≡ Held.Request m → (m.client < most_clients) × (m.cabinet < most_cabinets)
     unfolding slot_at
-    request_places g =
-        let h = subst (HeldIs run.plan.n run.steps) g (holds j) in
-        let a = address_says run.plan.n run.steps m h.0 in
-        (a.1, omega (arith, a.2, cabinets_range.1))
+    request_places g = grind (arith, address_says, holds j, cabinets_range)
 
     pub reply_places : (get_or run.slots j empty_slot).held ≡ Held.Reply m → (m.client < most_clients) × (m.cabinet < most_cabinets)
     unfolding slot_at
-    reply_places g =
-        let h = subst (HeldIs run.plan.n run.steps) g (holds j) in
-        let a = address_says run.plan.n run.steps m h.0 in
-        (a.1, omega (arith, a.2, cabinets_range.1))
+    reply_places g = grind (arith, address_says, holds j, cabinets_range)
 
     pub reply_told : (get_or run.slots j empty_slot).held ≡ Held.Reply m → told_counter m.body ≤ most_steps
     unfolding slot_at
-    reply_told g =
-        let h = subst (HeldIs run.plan.n run.steps) g (holds j) in
-        omega (arith, tells_low run.steps m.part m.body h.1, steps_most)
+    reply_told g = grind (arith, tells_low, holds j, steps_most)
 
 -- what the code of a step needs of these
 pub ruleset in_run = (steps_most, client_operation, client_best, request_places, reply_places, reply_told)

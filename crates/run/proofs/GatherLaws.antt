@@ -1,8 +1,6 @@
 -- Laws of the two scans: one for each way that a turn of that for a free slot can go, and what is counted of the marked cabinets. Assumes nothing.
-use Rattle.std.proofs.Common.{ℕ, zero, suc, ◌+◌, ◌≡◌, ◌≤◌, Bool, true, false, cond, not, ◌&&◌, List, [], ◌∷◌, length, get_or, drop, refl, arith}
+use Rattle.std.proofs.Common.{ℕ, zero, suc, ◌+◌, ◌≡◌, ◌≤◌, Bool, true, false, cond, not, ◌&&◌, List, [], ◌∷◌, length, get_or, drop, refl, arith, add-one, eqb}
 use Rattle.std.specs.List.{filter, enumerate_from}
-use native.Mathlib.Numerals.{add-one}
-use lib.Dec.{eqb}
 use lib.ListN.{drop_of_length-le}
 use lib.Seq.{drop-nil}
 use Rattle.types.specs.Parts.{empty_slot}
@@ -37,11 +35,4 @@ other p q = not (eqb q.0 p) && q.1.marked
 pub others_are : (p i : ℕ) (l : List Cabinet) → length (filter (other p) (enumerate_from i l)) ≡ others_from p i l
 unfolding others_from
 others_are p i [] = refl
-others_are p i (k ∷ l) = go (other p (i, k)) (rw add-one (others_are p (suc i) l))
-  where
-    rest : List (ℕ × Cabinet)
-    rest = filter (other p) (enumerate_from (i + 1) l)
-
-    go : (b : Bool) → length rest ≡ others_from p (suc i) l → length (cond b ((i, k) ∷ rest) rest) ≡ cond b 1 0 + others_from p (suc i) l
-    go true e = omega arith
-    go false e = omega arith
+others_are p i (k ∷ l) = grind (arith, add-one, others_are p (suc i) l)

@@ -1,4 +1,3 @@
-pub mod ChangeLaws
 pub mod Decides
 pub mod FitLaws
 pub mod FrameLaws

@@ -1,6 +1,5 @@
 -- Lists of steps: one list behind another, and one step more. Assumes nothing.
-use mathlib.Core.List.{List, [], ◌∷◌, ◌++◌}
-use mathlib.Core.Path.{◌≡◌, refl}
+use Rattle.std.proofs.Common.{List, [], ◌∷◌, ◌++◌, ◌≡◌, refl}
 use Rattle.run.specs.Lists.{run_all}
 use Rattle.run.specs.Names.{Run, Step}
 use Rattle.run.specs.Steps.{step_of}

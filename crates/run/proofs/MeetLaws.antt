@@ -1,22 +1,17 @@
 -- Where a step makes its change: at most at one client or one cabinet, and one slot, by the step or by its message. Assumes nothing.
-use Prim.Native.Nat.{ℕ}
-use mathlib.Core.Bool.{Bool, true, false, cond, ◌||◌}
-use mathlib.Core.List.{List}
-use mathlib.Core.Path.{◌≡◌, refl}
-use lib.Dec.{leb, ltb}
-use lib.ListN.{get_or}
+use Rattle.std.proofs.Common.{ℕ, Bool, true, cond, ◌||◌, List, ◌≡◌, refl, ltb, get_or, arith}
+use Rattle.std.proofs.lemmas.Bool.Decides.{nat_tests}
 use Rattle.limits.specs.Limits.{most_cabinets, most_clients, most_slots}
-use Rattle.run.specs.Names.{Asked, Body, Change, Client, Decision, Deed, Entry, Err, Heard, Held, Message, None, Ok, Option, Outcome, Plan, Power, Refusal, Result, Run, Sight, Slot, Some, Standing, Step, Told, Work}
+use Rattle.run.specs.Names.{Asked, Body, Change, Client, Decision, Deed, Entry, Err, Heard, Held, Message, Ok, Option, Outcome, Plan, Power, Refusal, Result, Run, Sight, Slot, Standing, Step, Told, Work}
 use Rattle.cabinet.specs.Cabinets.{goes_back}
-use Rattle.heard.specs.Heard.{count_of}
-use Rattle.types.specs.Parts.{empty_slot, stored_in, sight_of}
-use Rattle.client.specs.Begin.{standing_of, begins_by, begins_of, sends_by, sends_of, leaves_by, leaves_of}
-use Rattle.client.specs.Hear.{told_of, first_write, first_read, second, hear_by, hears_of}
+use Rattle.types.specs.Parts.{empty_slot, stored_in}
+use Rattle.client.specs.Begin.{begins_by, begins_of, sends_by, sends_of, leaves_by, leaves_of}
+use Rattle.client.specs.Hear.{first_write, first_read, second, hear_by, hears_of}
 use Rattle.admit.specs.Admit.{admit_of}
 use Rattle.server.specs.Deeds.{stops_when, rolls_of}
 use Rattle.server.specs.Requests.{answers_by, answers_when, answers_of}
 use Rattle.run.specs.Gather.{first_from, others_from}
-use Rattle.run.specs.Steps.{client_at, slot_at, cabinet_at, loses_by, delivers_in, decide_of}
+use Rattle.run.specs.Steps.{slot_at, cabinet_at, loses_by, delivers_in, decide_of}
 
 -- the places of the client, the cabinet and the slot that a step may change; 8, 9 or 64, past the end, where it changes none
 pub record Met : Type 0 where
@@ -36,57 +31,37 @@ pub data Meets (may : Deed → Type 0) (at : Met) : Decision → Type 0 where
   on_hearing : {o : Outcome} {c : Client} → Meets may at (Decision.Yes o (Change.Hearing at.client c at.slot))
   on_offering : {o : Outcome} {e : Entry} {t : Slot} → Meets may at (Decision.Yes o (Change.Offering at.cabinet e at.slot t))
 
-pub either : (P : Decision → Type 0) (t : Bool) (x y : Decision) → P x → P y → P (cond t x y)
-either P true x y a b = a
-either P false x y a b = b
-
 module _ (may : Deed → Type 0) (at : Met) where
   begins_at : (g : Standing) (c : Client) (w : Work) → Meets may at (begins_by g at.client c w)
-  begins_at Standing.Free c w = on_client
-  begins_at Standing.Away c w = refuses
-  begins_at Standing.Busy c w = refuses
+  begins_at g c w = grind (arith, refuses, on_client)
 
   leaves_at : (g : Standing) (c : Client) → Meets may at (leaves_by g at.client c)
-  leaves_at Standing.Free c = on_client
-  leaves_at Standing.Away c = refuses
-  leaves_at Standing.Busy c = on_client
+  leaves_at g c = grind (arith, refuses, on_client)
 
   sends_at : (g : Standing) (i k : ℕ) (c : Client) → Meets may at (sends_by g i k c at.slot)
-  sends_at Standing.Free i k c = refuses
-  sends_at Standing.Away i k c = refuses
-  sends_at Standing.Busy i k c = either (Meets may at) (leb most_slots at.slot) _ _ refuses on_slot
+  sends_at g i k c = grind (arith, nat_tests, refuses, on_slot)
 
   hears_at : (d : Option Told) (plan : Plan) (c : Client) (h : Heard) → Meets may at (hear_by d plan at.client at.slot c h)
   unfolding first_write first_read second
-  hears_at None plan c h = on_slot
-  hears_at (Some (Told.OfWrite r e)) plan c h = either (Meets may at) (leb plan.read (count_of h)) _ _ on_hearing on_hearing
-  hears_at (Some (Told.OfRead e)) plan c h = either (Meets may at) (leb plan.read (count_of h)) _ _ on_hearing on_hearing
-  hears_at (Some Told.Wrote) plan c h = either (Meets may at) (leb plan.write (count_of h)) _ _ on_hearing on_hearing
-  hears_at (Some Told.ReadBack) plan c h = either (Meets may at) (leb plan.write (count_of h)) _ _ on_hearing on_hearing
+  hears_at d plan c h = grind (arith, nat_tests, on_slot, on_hearing)
 
   loses_at : (h : Held) → Meets may at (loses_by h at.slot)
-  loses_at Held.Empty = refuses
-  loses_at (Held.Request m) = on_slot
-  loses_at (Held.Reply m) = on_slot
+  loses_at h = grind (arith, refuses, on_slot)
 
   stops_at : (w : Power) → may Deed.GoDown → Meets may at (stops_when w at.cabinet)
-  stops_at Power.Down f = refuses
-  stops_at Power.Up f = on_cabinet f
-  stops_at Power.Stale f = on_cabinet f
+  stops_at w f = grind (arith, refuses, on_cabinet)
 
-module _ (may : Deed → Type 0) (j : ℕ) (m : Message) (k : Sight) where
-  answers_by_at : (b : Body) (stale : Bool) → Meets may (met most_clients m.cabinet j) (answers_by b stale j m k)
-  answers_by_at Body.AskStamp stale = either (Meets may (met most_clients m.cabinet j)) stale _ _ on_slot on_slot
-  answers_by_at Body.AskEntry stale = either (Meets may (met most_clients m.cabinet j)) stale _ _ on_slot on_slot
-  answers_by_at (Body.Offer e) stale = on_offering
-  answers_by_at (Body.TellStamp s) stale = on_slot
-  answers_by_at (Body.TellEntry e) stale = on_slot
-  answers_by_at Body.Acknowledge stale = on_slot
+  rolled_at : (s t : Bool) (j : ℕ) → (s ≡ true → t ≡ true → may (Deed.GoBack j))
+      → Meets may at (cond s (cond t (Decision.Yes Outcome.RolledBack (Change.OfCabinet at.cabinet (Deed.GoBack j))) (Decision.No Refusal.TooMany)) (Decision.No Refusal.NoVersion))
+  rolled_at s t j f = grind (arith, refuses, on_cabinet)
 
-  answers_at : (w : Power) → Meets may (met most_clients m.cabinet j) (answers_when w j m k)
-  answers_at Power.Down = on_slot
-  answers_at Power.Up = answers_by_at m.body false
-  answers_at Power.Stale = answers_by_at m.body true
+  -- a request that reaches the cabinet of this place
+  module _ (m : Message) (k : Sight) (here : m.cabinet ≡ at.cabinet) where
+    answers_by_at : (b : Body) (stale : Bool) → Meets may at (answers_by b stale at.slot m k)
+    answers_by_at b stale = grind (arith, on_slot, on_offering)
+
+    answers_at : (w : Power) → Meets may at (answers_when w at.slot m k)
+    answers_at w = grind (arith, on_slot, answers_by_at)
 
 -- ---- of a whole run
 
@@ -132,31 +107,21 @@ module _ (run : Run) where
   delivers_at : (may : Deed → Type 0) (j : ℕ) (h : Held) → Meets may (met_by h j) (delivers_in run j h)
   unfolding answers_of hears_of
   delivers_at may j Held.Empty = refuses
-  delivers_at may j (Held.Request m) = answers_at may j m (sight_of (cabinet_at run m.cabinet)) (cabinet_at run m.cabinet).power
-  delivers_at may j (Held.Reply m) =
-      hears_at may (met m.client most_cabinets j) (told_of (client_at run m.client) m) run.plan (client_at run m.client) _
+  delivers_at may j (Held.Request m) = answers_at may (met most_clients m.cabinet j) m _ refl _
+  delivers_at may j (Held.Reply m) = hears_at may (met m.client most_cabinets j) _ _ _ _
 
   rolls_at : (p j : ℕ) → Meets (Does run (Ok (Asked.RollsBack p j))) (met most_clients p most_slots) (decide_of run (Ok (Asked.RollsBack p j)))
   unfolding decide_of rolls_of
-  rolls_at p j = go _ _ refl refl
-    where
-      go : (s t : Bool) → goes_back (stored_in run.plan p) j (cabinet_at run p) ≡ s
-          → (cabinet_at run p).marked || ltb (others_from p 0 run.cabinets) run.plan.r ≡ t
-          → Meets (Does run (Ok (Asked.RollsBack p j))) (met most_clients p most_slots)
-          (cond s (cond t (Decision.Yes Outcome.RolledBack (Change.OfCabinet p (Deed.GoBack j))) (Decision.No Refusal.TooMany)) (Decision.No Refusal.NoVersion))
-      go true true e f = on_cabinet (refl, e, f)
-      go true false e f = refuses
-      go false t e f = refuses
+  rolls_at p j = rolled_at _ (met most_clients p most_slots) _ _ j (λ e f. (refl, e, f))
 
   pub run_at : (a : Result Asked Refusal) → Meets (Does run a) (met_at run a) (decide_of run a)
   unfolding decide_of slot_at begins_of sends_of leaves_of
   run_at (Err why) = refuses
-  run_at (Ok (Asked.Begins i w)) = begins_at _ (met i most_cabinets most_slots) (standing_of (client_at run i).work) (client_at run i) w
-  run_at (Ok (Asked.Leaves i)) = leaves_at _ (met i most_cabinets most_slots) (standing_of (client_at run i).work) (client_at run i)
-  run_at (Ok (Asked.Sends i p)) =
-      sends_at _ (met most_clients most_cabinets (first_from 0 run.slots)) (standing_of (client_at run i).work) i p (client_at run i)
-  run_at (Ok (Asked.Delivers j)) = delivers_at _ j (slot_at run j).held
-  run_at (Ok (Asked.Loses j)) = loses_at _ (met most_clients most_cabinets j) (slot_at run j).held
-  run_at (Ok (Asked.Stops p)) = stops_at _ (met most_clients p most_slots) (cabinet_at run p).power refl
+  run_at (Ok (Asked.Begins i w)) = begins_at _ (met i most_cabinets most_slots) _ _ w
+  run_at (Ok (Asked.Leaves i)) = leaves_at _ (met i most_cabinets most_slots) _ _
+  run_at (Ok (Asked.Sends i p)) = sends_at _ (met most_clients most_cabinets (first_from 0 run.slots)) _ i p _
+  run_at (Ok (Asked.Delivers j)) = delivers_at _ j _
+  run_at (Ok (Asked.Loses j)) = loses_at _ (met most_clients most_cabinets j) _
+  run_at (Ok (Asked.Stops p)) = stops_at _ (met most_clients p most_slots) _ refl
   run_at (Ok (Asked.Restarts p)) = on_cabinet refl
   run_at (Ok (Asked.RollsBack p j)) = rolls_at p j

@@ -1,14 +1,12 @@
 -- What a rollback that was let in comes to: nowhere, not, or to the older version. Assumes nothing.
-use Rattle.std.proofs.Common.{ℕ, ◌+◌, ◌≡◌, Bool, true, false, ◌||◌, List, get_or, set, sym, ap, ◌∙◌}
-use lib.Dec.{ltb}
-use Rattle.run.specs.Names.{Asked, Cabinet, Change, Client, Decision, Deed, Err, Ok, Outcome, Refusal, Result, Run, Slot, Step, Stepped}
+use Rattle.std.proofs.Common.{ℕ, ◌+◌, ◌≡◌, true, false, ◌||◌, List, get_or, set, ltb, arith}
+use Rattle.run.specs.Names.{Asked, Cabinet, Client, Err, Ok, Outcome, Refusal, Result, Run, Slot, Step, Stepped}
 use Rattle.cabinet.specs.Cabinets.{goes_back, rolled_back}
 use Rattle.types.specs.Parts.{no_cabinet, stored_in}
 use Rattle.server.specs.Deeds.{rolls_of, deed_of}
 use Rattle.run.specs.Gather.{others_from}
-use Rattle.run.specs.Steps.{cabinet_at, decide_of, done_at, changed, put_back, go_of, step_of}
+use Rattle.run.specs.Steps.{cabinet_at, decide_of, done_at, changed, go_of, step_of}
 use Rattle.run.specs.Undamaged.{undamaged}
-use Rattle.run.proofs.FrameLaws.{step_is_go}
 use Rattle.run.proofs.MeetLaws.{asked_of}
 
 abbrev pub refused : Run → Refusal → Stepped
@@ -24,32 +22,20 @@ pub record Admitted (run : Run) (s : Step) : Type 0 where
   pub asked : Result Asked Refusal
   pub by : asked ≡ asked_of run s
 
--- what the arm decides is what the step puts back
-arm : {run : Run} {s : Step} (h : Admitted run s) {a : Result Asked Refusal} → h.asked ≡ a → {d : Decision} → decide_of run a ≡ d
-    → step_of run s ≡ put_back run d
-unfolding go_of
-arm {run} {s} h e g = step_is_go run s h.whole ∙ ap (put_back run) (ap (decide_of run) (sym h.by ∙ e) ∙ g)
-
 module _ {run : Run} {s : Step} (h : Admitted run s) {p j : ℕ} (e : h.asked ≡ Ok (Asked.RollsBack p j)) where
   pub rolls_nowhere : goes_back (stored_in run.plan p) j (get_or run.cabinets p no_cabinet) ≡ false
       → step_of run s ≡ refused run Refusal.NoVersion
-  unfolding decide_of cabinet_at rolls_of
-  rolls_nowhere g = let z : decide_of run (Ok (Asked.RollsBack p j)) ≡ Decision.No Refusal.NoVersion = rw g in arm h e z
+  unfolding step_of go_of decide_of cabinet_at rolls_of
+  rolls_nowhere g = grind arith
 
   module _ (g : goes_back (stored_in run.plan p) j (get_or run.cabinets p no_cabinet) ≡ true) {o : ℕ} (z : o ≡ others_from p 0 run.cabinets) where
     pub rolls_not : ((get_or run.cabinets p no_cabinet).marked || ltb o run.plan.r) ≡ false
         → step_of run s ≡ refused run Refusal.TooMany
-    unfolding decide_of cabinet_at rolls_of
-    rolls_not l =
-        let many : ((get_or run.cabinets p no_cabinet).marked || ltb (others_from p 0 run.cabinets) run.plan.r) ≡ false = rw z at l in
-        let y : decide_of run (Ok (Asked.RollsBack p j)) ≡ Decision.No Refusal.TooMany = rw (g, many) in
-        arm h e y
+    unfolding step_of go_of decide_of cabinet_at rolls_of
+    rolls_not l = grind arith
 
     pub rolls_to : ((get_or run.cabinets p no_cabinet).marked || ltb o run.plan.r) ≡ true
         → {k : Cabinet} → k ≡ rolled_back (stored_in run.plan p) j (get_or run.cabinets p no_cabinet)
         → step_of run s ≡ stored run Outcome.RolledBack (set run.cabinets p k) run.clients run.slots
-    unfolding decide_of cabinet_at rolls_of changed done_at deed_of
-    rolls_to l q =
-        let few : ((get_or run.cabinets p no_cabinet).marked || ltb (others_from p 0 run.cabinets) run.plan.r) ≡ true = rw z at l in
-        let y : decide_of run (Ok (Asked.RollsBack p j)) ≡ Decision.Yes Outcome.RolledBack (Change.OfCabinet p (Deed.GoBack j)) = rw (g, few) in
-        rw q (arm h e y)
+    unfolding step_of go_of decide_of cabinet_at rolls_of changed done_at deed_of
+    rolls_to l q = grind arith

@@ -1,21 +1,16 @@
 -- What an undamaged run says of each of its parts. Assumes nothing.
-use Prim.Native.Nat.{ℕ, ◌≤◌}
-use mathlib.Core.Bool.{Bool, true, false, cond, ◌&&◌}
-use mathlib.Core.Path.{◌≡◌, refl}
-use native.Mathlib.Omega.{arith}
-use lib.Dec.{leb, ltb}
-use borrow.Author.Tests.{leb-true, le-leb}
-use lib.ListN.{get_or}
+use Rattle.std.proofs.Common.{ℕ, ◌≤◌, true, ◌≡◌, refl, arith, get_or}
+use Rattle.std.proofs.lemmas.Bool.Decides.{nat_tests}
 use Rattle.limits.specs.Limits.{most_steps}
 use Rattle.run.specs.Names.{Cabinet, Plan, Run}
 use Rattle.plan.specs.Rule.{is_ruled}
-use Rattle.plan.proofs.RuleLaws.{both, Quorums, quorums}
+use Rattle.plan.proofs.RuleLaws.{Quorums, quorums}
 use Rattle.plan.proofs.RuledLaws.{ruled_accepted}
 use Rattle.cabinet.specs.Cabinets.{present_of}
-use Rattle.cabinet.specs.Entries.{factory_entry, is_factory}
-use Rattle.types.specs.Parts.{fresh_client, empty_slot, no_cabinet, stored_in}
+use Rattle.cabinet.specs.Entries.{factory_entry}
+use Rattle.types.specs.Parts.{fresh_client, empty_slot, no_cabinet}
 use Rattle.guard.specs.All.{all_from}
-use Rattle.guard.specs.Damage.{entry_sound, version_sound, record_sound, factory_at, is_fresh, cabinet_sound, client_sound, slot_sound}
+use Rattle.guard.specs.Damage.{entry_sound, version_sound, factory_at, cabinet_sound, client_sound, slot_sound}
 use Rattle.guard.proofs.AllLaws.{all_mono, all_zero_read}
 use Rattle.guard.proofs.DamageLaws.{joined, factory_is, factory_says, factory_made, fresh_says, version_says, version_factory, record_says, client_made}
 use Rattle.run.specs.Steps.{client_at, slot_at, cabinet_at}
@@ -30,39 +25,23 @@ pub record Sound (run : Run) : Type 0 where
 
 pub undamaged_says : (run : Run) → undamaged run ≡ true → Sound run
 unfolding undamaged rest_sound
-undamaged_says run h =
-    let a = both (is_ruled run.plan && _) _ h in
-    let b = both (is_ruled run.plan) _ a.0 in
-    let c = both (leb run.steps most_steps) _ b.1 in
-    let d = both (all_from (client_sound run.plan run.steps) 0 run.clients) _ c.1 in
-    record { ruled = b.0; steps = leb-true _ _ c.0; clients = d.0; slots = d.1; cabinets = a.1 }
+undamaged_says run h = grind (arith, nat_tests)
 
 pub undamaged_made : (run : Run) → Sound run → undamaged run ≡ true
 unfolding undamaged rest_sound
-undamaged_made run h =
-    joined _ _ (joined _ _ h.ruled (joined _ _ (le-leb _ _ h.steps) (joined _ _ h.clients h.slots))) h.cabinets
+undamaged_made run h = joined _ _ (grind (arith, nat_tests)) h.cabinets
 
 -- every version of a cabinet is sound
 versions_sound : (plan : Plan) (steps i : ℕ) (k : Cabinet) → cabinet_sound plan steps i k ≡ true
     → (j : ℕ) → entry_sound steps (get_or k.versions j factory_entry) ≡ true
 unfolding cabinet_sound
-versions_sound plan steps i k = go (ltb i plan.n)
-  where
-    go : (t : Bool) → cond t (record_sound steps (stored_in plan i) k) (is_fresh k) ≡ true → (j : ℕ)
-        → entry_sound steps (get_or k.versions j factory_entry) ≡ true
-    go true h j =
-        let v = (record_says steps (stored_in plan i) k h).1 in
-        (version_says steps k.kept j (get_or k.versions j factory_entry)
-        (all_zero_read (version_sound steps k.kept) j k.versions v factory_entry (version_factory steps k.kept j))).0
-    go false h j =
-        let f : is_factory (get_or k.versions j factory_entry) ≡ true = all_zero_read factory_at j k.versions (fresh_says k h) factory_entry factory_is in
-        rw (factory_says (get_or k.versions j factory_entry) f) (factory_made steps)
+versions_sound plan steps i k h j = grind (arith, nat_tests, record_says, version_says, version_factory, all_zero_read (version_sound steps k.kept) j k.versions, fresh_says, factory_is, factory_says, factory_made, all_zero_read factory_at j k.versions)
 
 -- ---- each part, wherever it is read
 
 module _ (run : Run) (sound : Sound run) where
   pub sound_plan : Quorums run.plan
-  sound_plan = let p = run.plan in quorums p.n p.k p.r p.b p (ruled_accepted p sound.ruled)
+  sound_plan = quorums _ _ _ _ run.plan (ruled_accepted run.plan sound.ruled)
 
   pub sound_client : (i : ℕ) → client_sound run.plan run.steps i (client_at run i) ≡ true
   unfolding client_at

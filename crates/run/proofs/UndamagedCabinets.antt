@@ -1,20 +1,13 @@
 -- Whatever a step does to a cabinet of the line, a sound record stays sound. Assumes nothing.
-use Prim.Native.Nat.{ℕ, zero, suc, ◌+◌, ◌-◌, ◌<◌, min}
-use mathlib.Core.Bool.{Bool, true, false, cond}
-use mathlib.Core.List.{List, ◌∷◌}
-use mathlib.Core.Path.{◌≡◌, refl, sym, ◌∙◌}
-use native.Mathlib.Omega.{arith}
-use native.Mathlib.Nat.{zero-add}
-use lib.ListN.{length, get_or, drop, replicate, length-take}
-use lib.Seq.{get_or-take, get_or-drop}
-use borrow.Author.Tests.{lt-ltb}
+use Rattle.std.proofs.Common.{ℕ, zero, suc, ◌+◌, ◌-◌, ◌<◌, min, Bool, true, List, ◌∷◌, ◌≡◌, arith, zero-add, length, get_or, drop, replicate, length-take, get_or-take, get_or-drop}
+use Rattle.std.proofs.lemmas.Bool.Decides.{nat_tests}
 use Rattle.limits.specs.Limits.{most_versions}
 use Rattle.run.specs.Names.{Cabinet, Deed, Entry, Plan}
-use Rattle.cabinet.specs.Cabinets.{present_of, added, taken, offered, restarted, older_from, older_by, as_built, rolled_back}
-use Rattle.cabinet.specs.Entries.{factory_entry, takes}
+use Rattle.cabinet.specs.Cabinets.{added, taken, offered, restarted, older_from, rolled_back}
+use Rattle.cabinet.specs.Entries.{factory_entry}
 use Rattle.cabinet.proofs.CabinetLaws.{rolled_by}
 use Rattle.cabinet.proofs.ListLaws.{getD_filled}
-use Rattle.types.specs.Parts.{stored_in, is_forgetful}
+use Rattle.types.specs.Parts.{stored_in}
 use Rattle.server.specs.Deeds.{deed_of}
 use Rattle.guard.specs.All.{all_from}
 use Rattle.guard.specs.Damage.{entry_sound, version_sound, record_sound, cabinet_sound}
@@ -33,38 +26,24 @@ module _ (steps : ℕ) where
       short i low = omega (arith, simp length-take at low)
 
       here : (i : ℕ) → i < most_versions → version_sound steps (min (kept + 1) most_versions) i (get_or (e ∷ v) i factory_entry) ≡ true
-      here zero l = version_made steps (min (kept + 1) most_versions) 0 e h (omega arith)
-      here (suc i) l =
-          version_moved steps kept (min (kept + 1) most_versions) i (suc i) (get_or v i factory_entry) (λ m. omega arith)
-          (all_zero_read (version_sound steps kept) i v all factory_entry (version_factory steps kept i))
+      here zero l = grind (arith, version_made)
+      here (suc i) l = grind (arith, version_moved, all_zero_read, version_factory)
 
   taken_sound : (stored : Bool) (e : Entry) (k : Cabinet) → entry_sound steps e ≡ true → record_sound steps stored k ≡ true
       → record_sound steps stored (taken stored e k) ≡ true
   unfolding taken
-  taken_sound true e k h r =
-      let f = record_says steps true k r in
-      let c = kept_says true k.kept f.0 in
-      record_made steps true (taken true e k) (kept_made true (min (k.kept + 1) most_versions) (omega arith) (omega arith) refl) (added_sound e k.versions k.kept h f.1)
-  taken_sound false e k h r =
-      let f = record_says steps false k r in
-      let c = kept_says false k.kept f.0 in
-      record_made steps false (taken false e k) f.0
-      (all_zero_set (version_sound steps k.kept) 0 k.versions f.1 e (version_made steps k.kept 0 e h (omega arith)))
+  taken_sound stored e k h r = grind (arith, nat_tests, record_says, kept_says, record_made, kept_made, added_sound, all_zero_set, version_made)
 
   offered_sound : (stored : Bool) (e : Entry) (k : Cabinet) → entry_sound steps e ≡ true → record_sound steps stored k ≡ true
       → record_sound steps stored (offered stored e k) ≡ true
   unfolding offered
-  offered_sound stored e k h r = go (takes (present_of k) e)
-    where
-      go : (t : Bool) → record_sound steps stored (cond t (taken stored e k) k) ≡ true
-      go true = taken_sound stored e k h r
-      go false = r
+  offered_sound stored e k h r = grind (arith, taken_sound)
 
   -- only the versions and their number are looked at
   same_sound : (stored : Bool) (k k' : Cabinet) → k'.kept ≡ k.kept → k'.versions ≡ k.versions → record_sound steps stored k ≡ true
       → record_sound steps stored k' ≡ true
   unfolding record_sound
-  same_sound stored k k' a b r = rw (a, b) r
+  same_sound stored k k' a b r = grind arith
 
   -- the factory entry alone
   factories : all_from (version_sound steps 1) 0 (replicate most_versions factory_entry) ≡ true
@@ -73,9 +52,7 @@ module _ (steps : ℕ) where
   restarted_sound : (stored forgetful : Bool) (k : Cabinet) → record_sound steps stored k ≡ true
       → record_sound steps stored (restarted stored forgetful k) ≡ true
   unfolding restarted
-  restarted_sound true forgetful k r = same_sound true k _ refl refl r
-  restarted_sound false forgetful k r =
-      record_made steps false (restarted false forgetful k) (kept_made false 1 (omega arith) (omega arith) refl) factories
+  restarted_sound stored forgetful k r = grind (arith, nat_tests, record_made, kept_made, factories, same_sound)
 
   older_sound : (j : ℕ) (v : List Entry) (kept : ℕ) → all_from (version_sound steps kept) 0 v ≡ true
       → all_from (version_sound steps (kept - j)) 0 (older_from j v) ≡ true
@@ -88,12 +65,9 @@ module _ (steps : ℕ) where
   rolled_sound : (stored : Bool) (j : ℕ) (k : Cabinet) → record_sound steps stored k ≡ true
       → record_sound steps stored (rolled_back stored j k) ≡ true
   rolled_sound stored j k r =
-      let f = record_says steps stored k r in
-      let c = kept_says stored k.kept f.0 in
       rolled_by (λ (y : Cabinet). record_sound steps stored y ≡ true) stored j k r
-      (λ s. record_made steps stored as_built (kept_made stored 1 (omega arith) (omega arith) (rw s)) factories)
-      (λ s low. record_made steps stored (older_by j k) (kept_made stored (k.kept - j) (omega arith) (omega arith) (rw s))
-      (older_sound j k.versions k.kept f.1))
+      (λ s. grind (arith, record_made, kept_made, factories))
+      (λ s low. grind (arith, record_says, kept_says, record_made, kept_made, older_sound))
 
 -- an entry that is offered has to be sound
 abbrev pub DeedSound : ℕ → Deed → Type 0
@@ -105,16 +79,13 @@ DeedSound steps (Deed.GoBack j) = Unit {0}
 module _ (plan : Plan) (steps p : ℕ) (line : p < plan.n) where
   in_line : (k : Cabinet) → cabinet_sound plan steps p k ≡ record_sound steps (stored_in plan p) k
   unfolding cabinet_sound
-  in_line k = rw (lt-ltb p plan.n line)
+  in_line k = grind (arith, nat_tests)
 
   deed_record : (d : Deed) (k : Cabinet) → DeedSound steps d → record_sound steps (stored_in plan p) k ≡ true
       → record_sound steps (stored_in plan p) (deed_of plan p d k) ≡ true
   unfolding deed_of
-  deed_record (Deed.Weigh e) k h r = offered_sound steps (stored_in plan p) e k h r
-  deed_record Deed.GoDown k h r = same_sound steps (stored_in plan p) k _ refl refl r
-  deed_record Deed.ComeUp k h r = restarted_sound steps (stored_in plan p) (is_forgetful plan.profile) k r
-  deed_record (Deed.GoBack j) k h r = rolled_sound steps (stored_in plan p) j k r
+  deed_record d k h r = grind (arith, offered_sound, same_sound, restarted_sound, rolled_sound)
 
   pub deed_sound : (d : Deed) (k : Cabinet) → DeedSound steps d → cabinet_sound plan steps p k ≡ true
       → cabinet_sound plan steps p (deed_of plan p d k) ≡ true
-  deed_sound d k h r = in_line (deed_of plan p d k) ∙ deed_record d k h (sym (in_line k) ∙ r)
+  deed_sound d k h r = grind (arith, in_line, deed_record)

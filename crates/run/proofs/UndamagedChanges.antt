@@ -1,9 +1,5 @@
 -- A change whose parts are sound leaves an undamaged run undamaged. Assumes nothing.
-use Prim.Native.Nat.{ℕ, ◌+◌, ◌<◌}
-use mathlib.Core.Bool.{true}
-use mathlib.Core.Path.{◌≡◌}
-use native.Mathlib.Omega.{arith}
-use lib.ListN.{set}
+use Rattle.std.proofs.Common.{ℕ, ◌+◌, ◌<◌, true, ◌≡◌, arith}
 use Rattle.limits.specs.Limits.{most_steps}
 use Rattle.run.specs.Names.{Change, Client, Decision, Deed, Entry, Outcome, Plan, Refusal, Run, Slot}
 use Rattle.types.specs.Parts.{empty_slot, no_cabinet}
@@ -46,14 +42,6 @@ module _ (run : Run) (sound : Sound run) where
   cabinets_later : all_from (cabinet_sound run.plan next) 0 run.cabinets ≡ true
   cabinets_later = all_mono _ _ 0 run.cabinets (λ p k. cabinet_mono run.plan run.steps next p k (omega arith)) sound.cabinets
 
-  clients_set : (i : ℕ) (c : Client) → client_sound run.plan next i c ≡ true
-      → all_from (client_sound run.plan next) 0 (set run.clients i c) ≡ true
-  clients_set i c h = all_zero_set (client_sound run.plan next) i run.clients clients_later c h
-
-  slots_set : (j : ℕ) (t : Slot) → slot_sound run.plan.n next j t ≡ true
-      → all_from (slot_sound run.plan.n next) 0 (set run.slots j t) ≡ true
-  slots_set j t h = all_zero_set (slot_sound run.plan.n next) j run.slots slots_later t h
-
   cabinets_done : (p : ℕ) (d : Deed) → p < run.plan.n → DeedSound next d
       → all_from (cabinet_sound run.plan next) 0 (done_at run.plan run.cabinets p d) ≡ true
   unfolding done_at
@@ -63,26 +51,4 @@ module _ (run : Run) (sound : Sound run) where
 
   pub put_sound : run.steps < most_steps → (x : Decision) → Keeps run.plan next x → Sound (put_back run x).run
   unfolding changed
-  put_sound room x refused = sound
-  put_sound room x (of_client {i = i} {c = c} h) =
-      record { ruled = sound.ruled; steps = omega arith; clients = clients_set i c h; slots = slots_later; cabinets = cabinets_later }
-  put_sound room x (of_slot {j = j} {t = t} h) =
-      record { ruled = sound.ruled; steps = omega arith; clients = clients_later; slots = slots_set j t h; cabinets = cabinets_later }
-  put_sound room x (of_cabinet {p = p} {d = d} line h) =
-      record { ruled = sound.ruled; steps = omega arith; clients = clients_later; slots = slots_later; cabinets = cabinets_done p d line h }
-  put_sound room x (of_hearing {i = i} {j = j} {c = c} h) =
-      record {
-        ruled = sound.ruled;
-        steps = omega arith;
-        clients = clients_set i c h;
-        slots = slots_set j empty_slot (empty_sound run.plan.n next j);
-        cabinets = cabinets_later;
-      }
-  put_sound room x (of_offering {p = p} {j = j} {e = e} {t = t} line h s) =
-      record {
-        ruled = sound.ruled;
-        steps = omega arith;
-        clients = clients_later;
-        slots = slots_set j t s;
-        cabinets = cabinets_done p (Deed.Weigh e) line h;
-      }
+  put_sound room x k = grind (arith, clients_later, slots_later, cabinets_later, all_zero_set, cabinets_done, empty_sound)

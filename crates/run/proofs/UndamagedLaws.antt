@@ -1,31 +1,26 @@
 -- Every step keeps an undamaged run undamaged, and a fresh run is: "Runs reached from a fresh one always pass". Assumes nothing.
-use Prim.Native.Nat.{ℕ, ◌+◌, ◌<◌}
-use mathlib.Core.Bool.{Bool, true, false, cond, ◌||◌}
-use mathlib.Core.List.{List, [], ◌∷◌}
-use mathlib.Core.Path.{◌≡◌, refl}
-use native.Mathlib.Omega.{arith}
-use lib.Dec.{ltb}
+use Rattle.std.proofs.Common.{ℕ, ◌+◌, ◌<◌, true, List, [], ◌∷◌, ◌≡◌, refl, arith}
+use Rattle.std.proofs.lemmas.Bool.Decides.{nat_tests}
 use Rattle.limits.specs.Limits.{most_cabinets, most_clients, most_slots, most_versions}
 use Rattle.run.specs.Names.{Refusal, Asked, Err, Held, Ok, Plan, Planned, Power, Result, Run, Sight, Step, Unplanned}
 use Rattle.plan.specs.Rule.{in_range, chosen, plan_of, forgetful_plan}
 use Rattle.plan.proofs.RuledLaws.{accepted_ruled}
-use Rattle.cabinet.specs.Cabinets.{fresh_cabinet, has_version}
+use Rattle.cabinet.specs.Cabinets.{fresh_cabinet}
 use Rattle.cabinet.specs.Entries.{factory_entry}
-use Rattle.types.specs.Parts.{fresh_client, empty_slot, sight_of, stored_in}
+use Rattle.types.specs.Parts.{fresh_client, empty_slot}
 use Rattle.admit.specs.Admit.{placed}
 use Rattle.server.specs.Deeds.{stops_when, rolls_of}
 use Rattle.guard.specs.All.{all_from}
-use Rattle.guard.specs.Damage.{version_sound, record_sound, is_fresh, cabinet_sound, client_sound, slot_sound}
+use Rattle.guard.specs.Damage.{kept_sound, version_sound, record_sound, cabinet_sound, client_sound, slot_sound}
 use Rattle.guard.proofs.AllLaws.{all_replicate}
-use Rattle.guard.proofs.DamageLaws.{factory_made, version_factory, kept_made, record_made, fresh_made, client_made}
+use Rattle.guard.proofs.DamageLaws.{factory_made, version_factory, fresh_made, client_made}
 use Rattle.guard.proofs.MessageLaws.{HeldIs, slot_says}
 use Rattle.run.specs.Lists.{run_all}
 use Rattle.run.specs.Start.{fresh_run, start_by, start_of}
-use Rattle.run.specs.Steps.{client_at, slot_at, cabinet_at, delivers_in, decide_of, put_back, go_of, step_of}
+use Rattle.run.specs.Steps.{delivers_in, decide_of, put_back, go_of, step_of}
 use Rattle.run.specs.Undamaged.{undamaged}
 use Rattle.admit.proofs.AdmitLaws.{Placed, range_placed, admitted_by}
 use Rattle.run.proofs.FrameLaws.{step_by}
-use Rattle.run.proofs.MeetLaws.{either}
 use Rattle.run.proofs.ShapeLaws.{Shaped, fresh_shaped, step_shaped}
 use Rattle.run.proofs.SoundLaws.{Sound, undamaged_says, undamaged_made, sound_plan, sound_client, sound_slot, sound_present}
 use Rattle.run.proofs.UndamagedChanges.{Keeps, refused, of_cabinet, empty_sound, put_sound}
@@ -36,40 +31,27 @@ use Rattle.run.proofs.UndamagedSlots.{sends_keeps, answers_keeps, loses_keeps}
 -- ---- a step
 
 stops_keep : (plan : Plan) (steps p : ℕ) (w : Power) → p < plan.n → Keeps plan steps (stops_when w p)
-stops_keep plan steps p Power.Down line = refused
-stops_keep plan steps p Power.Up line = of_cabinet line tt
-stops_keep plan steps p Power.Stale line = of_cabinet line tt
+stops_keep plan steps p w line = grind (arith, refused, of_cabinet)
 
 rolls_keep : (plan : Plan) (steps p j : ℕ) (k : Sight) (others : ℕ) → p < plan.n → Keeps plan steps (rolls_of plan p j k others)
 unfolding rolls_of
-rolls_keep plan steps p j k others line =
-    either (Keeps plan steps) (has_version (stored_in plan p) k.present.stamp k.kept j) _ _
-    (either (Keeps plan steps) (k.marked || ltb others plan.r) _ _ (of_cabinet line tt) refused)
-    refused
+rolls_keep plan steps p j k others line = grind (arith, refused, of_cabinet)
 
 module _ (run : Run) (sound : Sound run) where
   delivers_keep : (j : ℕ) (h : Held) → HeldIs run.plan.n run.steps h → Keeps run.plan (run.steps + 1) (delivers_in run j h)
-  delivers_keep j Held.Empty f = refused
-  delivers_keep j (Held.Request m) f =
-      answers_keeps run.plan run.steps j m (sight_of (cabinet_at run m.cabinet)) f.0 (sound_present run sound m.cabinet) f.1
-  delivers_keep j (Held.Reply m) f =
-      hears_keeps run.plan run.steps j (client_at run m.client) m (sound_plan run sound) (sound_client run sound m.client) f.0
-      f.1
+  delivers_keep j h f = grind (arith, refused, answers_keeps, hears_keeps, sound_present, sound_plan, sound_client)
 
   asked_keeps : (a : Result Asked Refusal) → Placed run.plan.n a → Keeps run.plan (run.steps + 1) (decide_of run a)
   unfolding decide_of
   asked_keeps (Err why) p = refused
-  asked_keeps (Ok (Asked.Begins i w)) p =
-      begins_keeps run.plan run.steps i (client_at run i) (sound_plan run sound) (sound_client run sound i) w p.1
-  asked_keeps (Ok (Asked.Leaves i)) p =
-      leaves_keeps run.plan run.steps i (client_at run i) (sound_plan run sound) (sound_client run sound i)
-  asked_keeps (Ok (Asked.Sends i k)) p = sends_keeps run.plan run.steps i k (client_at run i) _ p.0 p.1 (sound_client run sound i)
-  asked_keeps (Ok (Asked.Delivers j)) p =
-      delivers_keep j (slot_at run j).held (slot_says run.plan.n run.steps j (slot_at run j) (sound_slot run sound j))
-  asked_keeps (Ok (Asked.Loses j)) p = loses_keeps run.plan (run.steps + 1) j (slot_at run j).held
-  asked_keeps (Ok (Asked.Stops k)) p = stops_keep run.plan (run.steps + 1) k (cabinet_at run k).power p
+  asked_keeps (Ok (Asked.Begins i w)) p = grind (arith, begins_keeps, sound_plan, sound_client)
+  asked_keeps (Ok (Asked.Leaves i)) p = grind (arith, leaves_keeps, sound_plan, sound_client)
+  asked_keeps (Ok (Asked.Sends i k)) p = grind (arith, sends_keeps, sound_client)
+  asked_keeps (Ok (Asked.Delivers j)) p = delivers_keep j _ (slot_says _ _ j _ (sound_slot run sound j))
+  asked_keeps (Ok (Asked.Loses j)) p = loses_keeps _ _ j _
+  asked_keeps (Ok (Asked.Stops k)) p = stops_keep _ _ k _ p
   asked_keeps (Ok (Asked.Restarts k)) p = of_cabinet p tt
-  asked_keeps (Ok (Asked.RollsBack k j)) p = rolls_keep run.plan (run.steps + 1) k j (sight_of (cabinet_at run k)) _ p.0
+  asked_keeps (Ok (Asked.RollsBack k j)) p = rolls_keep _ _ k j _ _ p.0
 
 go_undamaged : (run : Run) (s : Step) → undamaged run ≡ true → undamaged (go_of run s).run ≡ true
 unfolding go_of decide_of
@@ -85,16 +67,11 @@ step_undamaged run s h = step_by run s (λ (r : Run). undamaged r ≡ true) h (g
 -- ---- a fresh run
 
 fresh_cabinet_sound : (plan : Plan) (i : ℕ) → cabinet_sound plan 0 i fresh_cabinet ≡ true
-unfolding cabinet_sound
-fresh_cabinet_sound plan i = go (ltb i plan.n) (stored_in plan i)
+unfolding cabinet_sound record_sound kept_sound
+fresh_cabinet_sound plan i = grind (arith, nat_tests, versions, fresh_made)
   where
     versions : all_from (version_sound 0 1) 0 fresh_cabinet.versions ≡ true
     versions = all_replicate (version_sound 0 1) 0 most_versions factory_entry (λ j. version_factory 0 1 j)
-
-    go : (t stored : Bool) → cond t (record_sound 0 stored fresh_cabinet) (is_fresh fresh_cabinet) ≡ true
-    go true true = record_made 0 true fresh_cabinet (kept_made true 1 (omega arith) (omega arith) refl) versions
-    go true false = record_made 0 false fresh_cabinet (kept_made false 1 (omega arith) (omega arith) refl) versions
-    go false stored = fresh_made
 
 pub fresh_undamaged : (n k r b : ℕ) (p : Plan) → plan_of n k r b ≡ Ok p → undamaged (fresh_run p) ≡ true
 unfolding fresh_run
@@ -103,9 +80,7 @@ fresh_undamaged n k r b p e =
     (record {
       ruled = accepted_ruled n k r b p e;
       steps = omega arith;
-      clients =
-          all_replicate (client_sound p 0) 0 most_clients fresh_client
-          (λ i. client_made p 0 i fresh_client (omega arith) (factory_made 0) refl);
+      clients = all_replicate (client_sound p 0) 0 most_clients fresh_client (λ i. grind (arith, client_made, factory_made));
       slots = all_replicate (slot_sound p.n 0) 0 most_slots empty_slot (λ j. empty_sound p.n 0 j);
       cabinets = all_replicate (cabinet_sound p 0) 0 most_cabinets fresh_cabinet (λ i. fresh_cabinet_sound p i);
     })
@@ -118,12 +93,7 @@ plain = refl
 module _ (n k r b : ℕ) where
   pub start_undamaged : undamaged (start_of n k r b).run ≡ true
   unfolding start_of
-  start_undamaged = go _ refl
-    where
-      go : (x : Planned) → plan_of n k r b ≡ x → undamaged (start_by x).run ≡ true
-      go (Err Unplanned.OutOfRange) e = fresh_undamaged 2 0 0 0 (forgetful_plan 2 0 0 0) plain
-      go (Err Unplanned.TooSmall) e = fresh_undamaged 2 0 0 0 (forgetful_plan 2 0 0 0) plain
-      go (Ok p) e = fresh_undamaged n k r b p e
+  start_undamaged = grind (arith, fresh_undamaged, plain)
 
   start_shaped : Shaped (start_of n k r b).run
   unfolding start_of
@@ -150,10 +120,7 @@ pub record Whole (run : Run) : Type 0 where
 pub step_whole : (run : Run) (s : Step) → Whole run → Whole (step_of run s).run
 step_whole run s w = record { shaped = step_shaped run s w.shaped; sound = step_undamaged run s w.sound }
 
-runs_whole : (run : Run) (ss : List Step) → Whole run → Whole (run_all run ss)
-runs_whole = all_by Whole step_whole
-
 -- a run that any list of steps reaches from a started one
 pub reached : (n k r b : ℕ) (ss : List Step) → Whole (run_all (start_of n k r b).run ss)
 reached n k r b ss =
-    runs_whole (start_of n k r b).run ss (record { shaped = start_shaped n k r b; sound = start_undamaged n k r b })
+    all_by Whole step_whole (start_of n k r b).run ss (record { shaped = start_shaped n k r b; sound = start_undamaged n k r b })

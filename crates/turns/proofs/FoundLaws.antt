@@ -1,23 +1,16 @@
 -- A row that was found between two rows: its answer has room, and after it what held holds again. Assumes nothing.
-use Rattle.std.proofs.Common.{ℕ, ◌+◌, ◌-◌, ◌^◌, ◌≤◌, ◌<◌, ◌≡◌, List, length, drop, subst, arith}
-use Rattle.turns.specs.Names.{Found, None, Option, Run, Some, Stepped}
+use Rattle.std.proofs.Common.{ℕ, ◌+◌, ◌^◌, ◌≤◌, ◌<◌, ◌≡◌, List, length, subst}
+use Rattle.turns.specs.Names.{Found, Option, Run, Some, Stepped}
 use Rattle.run.specs.Steps.{step_of}
-use Rattle.text.specs.Ends.{Finds, breaks}
+use Rattle.text.specs.Ends.{Finds}
 use Rattle.print.specs.Put.{Wrote}
 use Rattle.print.specs.Rows.{step_text, room}
 use Rattle.turns.proofs.TakingLaws.{Taking, taking_room, taking_row, taking_next}
-
--- no row is left
-pub last : (s : List ℕ) (i : ℕ) (r : Option Found) → Finds s i r → r ≡ None → breaks (drop i s) ≡ 0
-last s i r found is = subst (Finds s i) is found
 
 -- the row that was found behind i
 module _ (s : List ℕ) (i : ℕ) (r : Option Found) (found : Finds s i r) (x : Found) (is : r ≡ Some x) where
   row_there : Finds s i (Some x)
   row_there = subst (Finds s i) is found
-
-  pub shorter : length s - x.end < length s - i
-  shorter = let h = row_there in omega arith
 
   module _ {at row : ℕ} {run : Run} {d e : List ℕ} {o n : ℕ} {held : Run} (t : Taking s at row run d i e o n held) where
     pub has_room : o + room ≤ length e

@@ -1,9 +1,5 @@
 -- Lines and steps, with one more at their end, and that bytes have one set of lines. Assumes nothing.
-use Prim.Native.Nat.{ℕ, suc, ◌+◌}
-use native.Mathlib.Omega.{arith}
-use mathlib.Core.List.{List, [], ◌∷◌, ◌++◌, append_assoc, append-nil}
-use mathlib.Core.Path.{◌≡◌, refl, sym, ◌∙◌, ap}
-use lib.ListN.{length}
+use Rattle.std.proofs.Common.{ℕ, suc, ◌+◌, arith, List, [], ◌∷◌, ◌++◌, append_assoc, append-nil, ◌≡◌, refl, sym, ◌∙◌, ap, length}
 use Rattle.turns.specs.Names.{Run, Step}
 use Rattle.run.specs.Lists.{run_all}
 use Rattle.run.specs.Steps.{step_of}
@@ -48,13 +44,11 @@ text_more n run (y ∷ xs) x =
 
 no_line : (l : List ℕ) (ls : List (List ℕ)) (p q : List ℕ) → breaks p ≡ 0 → p ≡ (l ++ (10 ∷ closed ls)) ++ q → ⊥
 unfolding breaks
-no_line l ls p q h e =
-    let f : breaks ((l ++ (10 ∷ closed ls)) ++ q) ≡ 0 = rw e at h in
-    omega (arith, breaks_append (l ++ (10 ∷ closed ls)) q, breaks_append l (10 ∷ closed ls))
+no_line l ls p q h e = grind (arith, breaks_append (l ++ (10 ∷ closed ls)) q, breaks_append l (10 ∷ closed ls))
 
 behind : (l k z : List ℕ) → l ++ (10 ∷ k) ≡ l ++ (10 ∷ z) → k ≡ z
 behind [] k z e = cc
-behind (b ∷ l) k z e = behind l k z (cc)
+behind (b ∷ l) k z e = behind l k z cc
 
 pub one_set : (ls ms : List (List ℕ)) (p q : List ℕ) → breaks_in ls ≡ 0 → breaks_in ms ≡ 0 → breaks p ≡ 0 → breaks q ≡ 0
     → closed ls ++ p ≡ closed ms ++ q → (ls ≡ ms) × (p ≡ q)

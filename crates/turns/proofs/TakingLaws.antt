@@ -1,11 +1,5 @@
 -- What holds between two rows of a part, where each whole row is answered as its step is. Assumes nothing.
-use Prim.Native.Nat.{ℕ, ◌+◌, ◌-◌, ◌*◌, ◌^◌, ◌≤◌, ◌<◌}
-use native.Mathlib.Omega.{arith}
-use mathlib.Core.Bool.{true}
-use mathlib.Core.List.{List, [], ◌∷◌, ◌++◌}
-use mathlib.Core.Path.{◌≡◌, refl, sym, ◌∙◌, ap}
-use lib.ListN.{length, take, drop, length-append, take-append-drop}
-use lib.Seq.{take-add, drop-drop}
+use Rattle.std.proofs.Common.{ℕ, ◌+◌, ◌-◌, ◌*◌, ◌^◌, ◌≤◌, ◌<◌, arith, true, List, [], ◌∷◌, ◌++◌, ◌≡◌, refl, ◌∙◌, ap, length, take, drop, length-append, take-append-drop, take-add, drop-drop}
 use Rattle.turns.specs.Names.{Run, Step, Stepped}
 use Rattle.run.specs.Lists.{run_all}
 use Rattle.run.specs.Steps.{step_of}
@@ -50,45 +44,39 @@ module _ (s : List ℕ) (at row : ℕ) (run : Run) (d : List ℕ) where
 -- one row, from i to j
 module _ (s : List ℕ) (i j : ℕ) (x : Step) (later : i < j) (within : j ≤ length s) (one : OneRow (take (j - i) (drop i s)) x) where
   to_there : take j s ≡ take i s ++ take (j - i) (drop i s)
-  to_there = let e : i + (j - i) ≡ j = omega arith in ap (λ (n : ℕ). take n s) (sym e) ∙ take-add i (j - i) s
+  to_there = let e : i + (j - i) ≡ j = omega arith in cc (take-add i (j - i) s)
 
   from_there : drop (j - i) (drop i s) ≡ drop j s
-  from_there = let e : i + (j - i) ≡ j = omega arith in drop-drop (j - i) i s ∙ ap (λ (n : ℕ). drop n s) e
+  from_there = let e : i + (j - i) ≡ j = omega arith in cc (drop-drop (j - i) i s)
 
   one_less : breaks (drop i s) ≡ 1 + breaks (drop j s)
-  one_less =
-      ap breaks (sym (take-append-drop (j - i) (drop i s)))
-      ∙ breaks_append (take (j - i) (drop i s)) (drop (j - i) (drop i s))
-      ∙ rw (one.ends, breaks_lf one.line one.unbroken, from_there)
+  one_less = grind (arith, take-append-drop (j - i) (drop i s), breaks_append (take (j - i) (drop i s)) (drop (j - i) (drop i s)), breaks_lf one.line one.unbroken, from_there)
 
   module _ (at row : ℕ) (run : Run) (d e : List ℕ) (o n : ℕ) (held : Run) (t : Taking s at row run d i e o n held) where
     pub taking_room : o + room ≤ length e
-    taking_room = let h : breaks (drop i s) ≡ 1 + breaks (drop j s) = one_less in omega (arith, t.left, t.fits, t.same)
+    taking_room = omega (arith, one_less)
 
     pub taking_row : n + 1 < 2 ^ 64
-    taking_row = let h : breaks (drop i s) ≡ 1 + breaks (drop j s) = one_less in omega (arith, t.rows, t.counted)
+    taking_row = omega (arith, one_less)
 
     more : List (List ℕ)
     more = t.lines ++ (one.line ∷ [])
 
     bytes_on : take j s ≡ closed more
     unfolding more
-    bytes_on = to_there ∙ rw (t.taken, one.ends) (sym (closed_more t.lines one.line))
+    bytes_on = cc (to_there, closed_more t.lines one.line)
 
     steps_on : steps_in more ≡ steps_in t.lines ++ (x ∷ [])
     unfolding more
-    steps_on = steps_more t.lines one.line ∙ ap (λ (y : Step). steps_in t.lines ++ (y ∷ [])) one.asks
+    steps_on = cc (steps_more t.lines one.line)
 
     goes_on : (step_of held x).run ≡ run_all run (steps_in more)
-    goes_on = ap (λ (z : Run). (step_of z x).run) t.goes ∙ sym (run_more run (steps_in t.lines) x) ∙ ap (run_all run) (sym steps_on)
+    goes_on = cc (run_more run (steps_in t.lines) x, steps_on)
 
     says_on : text_all row run (steps_in more) ≡ text_all row run (steps_in t.lines) ++ step_text n (step_of held x).answer
     says_on =
         let e : row + length (steps_in t.lines) ≡ n = omega (arith, steps_length t.lines, t.next) in
-        ap (text_all row run) steps_on
-        ∙ text_more row run (steps_in t.lines) x
-        ∙ ap (λ (k : ℕ). text_all row run (steps_in t.lines) ++ step_text k (step_of (run_all run (steps_in t.lines)) x).answer) e
-        ∙ ap (λ (z : Run). text_all row run (steps_in t.lines) ++ step_text n (step_of z x).answer) (sym t.goes)
+        cc (steps_on, text_more row run (steps_in t.lines) x)
 
     pub taking_next : (f : List ℕ) (q : ℕ) (r : Stepped) → r ≡ step_of held x → Wrote e o (step_text n r.answer) f q → q ≤ o + room
         → Taking s at row run d j f q (n + 1) r.run

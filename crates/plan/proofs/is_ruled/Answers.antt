@@ -1,5 +1,5 @@
 -- `is_ruled` meets its contract. Assumes nothing.
-use Rattle.std.proofs.Common.{rules, ◌≡◌, sym, ◌∙◌, true}
+use Rattle.std.proofs.Common.{rules, arith, ◌≡◌, true}
 use Rattle.std.specs.Result.{result_eq}
 use Rattle.plan.specs.Names.{Ok, Plan, Planned}
 use Rattle.plan.specs.contracts.PlanPartialEq.TheImpl.{eq-value as same-plan}
@@ -14,7 +14,4 @@ is_same : (x : Planned) (p : Plan) → x ≡ Ok p → result_eq same-plan.it sam
 is_same x p h = rw h (search rules)
 
 pub returns : goal.returns
-returns c =
-    ruled_if c.args.p c.eq.result
-    (λ h. sym c.choose.ensures ∙ same_is _ _ (sym c.eq.ensures ∙ h))
-    (λ h. c.eq.ensures ∙ is_same _ _ (c.choose.ensures ∙ h))
+returns c = ruled_if c.args.p c.eq.result (λ h. grind (arith, same_is)) (λ h. grind (arith, is_same))

@@ -1,58 +1,65 @@
 -- `go` meets its contract: what was let in has its place in the run, and each arm is the step of its kind. Assumes nothing.
-use Rattle.std.proofs.Common.{rules, sym, ◌≡◌, ◌∙◌}
-use Rattle.run.specs.Names.{Err}
-use Rattle.run.proofs.GoLaws.{barred, let_in, placed_in, of_nine}
+use Rattle.std.proofs.Common.{arith}
+use Rattle.run.specs.Steps.{decide_of, go_of}
+use Rattle.run.proofs.GoLaws.{let_in}
 use Rattle.run.proofs.Run.go.Goals as goal
 
 pub returns-in_err-c : goal.returns-in_err-c
-returns-in_err-c c =
-    let same : c.from_residual.result ≡ Err c.in_err-c.field-0.0 = search rules in
-    rw same (sym (barred c.args.self.now c.args.s c.admit.result c.admit.ensures c.requires _ c.in_err-c.was))
+unfolding go_of decide_of
+returns-in_err-c c = grind (arith, let_in)
 
 pub begin-requires-clause-place : goal.begin-requires-clause-place
-begin-requires-clause-place c = (placed_in c.args.self.now c.args.s c.admit.result c.admit.ensures _ c.in_ok-c.was _ c.in-Begins.is).0
+begin-requires-clause-place c = grind (arith, let_in)
 
 pub returns-in-Begins : goal.returns-in-Begins
-returns-in-Begins c = c.begin.ensures ∙ sym (let_in c.args.self.now c.args.s c.admit.result c.admit.ensures _ c.in_ok-c.was c.requires _ c.in-Begins.is)
+unfolding go_of
+returns-in-Begins c = grind (arith, let_in)
 
 pub leave-requires-clause-place : goal.leave-requires-clause-place
-leave-requires-clause-place c = placed_in c.args.self.now c.args.s c.admit.result c.admit.ensures _ c.in_ok-c.was _ c.in-Leaves.is
+leave-requires-clause-place c = grind (arith, let_in)
 
 pub returns-in-Leaves : goal.returns-in-Leaves
-returns-in-Leaves c = c.leave.ensures ∙ sym (let_in c.args.self.now c.args.s c.admit.result c.admit.ensures _ c.in_ok-c.was c.requires _ c.in-Leaves.is)
+unfolding go_of
+returns-in-Leaves c = grind (arith, let_in)
 
 pub send-requires-clause-place : goal.send-requires-clause-place
-send-requires-clause-place c = (placed_in c.args.self.now c.args.s c.admit.result c.admit.ensures _ c.in_ok-c.was _ c.in-Sends.is).0
+send-requires-clause-place c = grind (arith, let_in)
 
 pub returns-in-Sends : goal.returns-in-Sends
-returns-in-Sends c = c.send.ensures ∙ sym (let_in c.args.self.now c.args.s c.admit.result c.admit.ensures _ c.in_ok-c.was c.requires _ c.in-Sends.is)
+unfolding go_of
+returns-in-Sends c = grind (arith, let_in)
 
 pub deliver-requires-clause-place : goal.deliver-requires-clause-place
-deliver-requires-clause-place c = placed_in c.args.self.now c.args.s c.admit.result c.admit.ensures _ c.in_ok-c.was _ c.in-Delivers.is
+deliver-requires-clause-place c = grind (arith, let_in)
 
 pub returns-in-Delivers : goal.returns-in-Delivers
-returns-in-Delivers c = c.deliver.ensures ∙ sym (let_in c.args.self.now c.args.s c.admit.result c.admit.ensures _ c.in_ok-c.was c.requires _ c.in-Delivers.is)
+unfolding go_of
+returns-in-Delivers c = grind (arith, let_in)
 
 pub lose-requires-clause-place : goal.lose-requires-clause-place
-lose-requires-clause-place c = placed_in c.args.self.now c.args.s c.admit.result c.admit.ensures _ c.in_ok-c.was _ c.in-Loses.is
+lose-requires-clause-place c = grind (arith, let_in)
 
 pub returns-in-Loses : goal.returns-in-Loses
-returns-in-Loses c = c.lose.ensures ∙ sym (let_in c.args.self.now c.args.s c.admit.result c.admit.ensures _ c.in_ok-c.was c.requires _ c.in-Loses.is)
+unfolding go_of
+returns-in-Loses c = grind (arith, let_in)
 
 pub stop-requires-clause-place : goal.stop-requires-clause-place
-stop-requires-clause-place c = of_nine _ c.requires _ (placed_in c.args.self.now c.args.s c.admit.result c.admit.ensures _ c.in_ok-c.was _ c.in-Stops.is)
+stop-requires-clause-place c = grind (arith, let_in)
 
 pub returns-in-Stops : goal.returns-in-Stops
-returns-in-Stops c = c.stop.ensures ∙ sym (let_in c.args.self.now c.args.s c.admit.result c.admit.ensures _ c.in_ok-c.was c.requires _ c.in-Stops.is)
+unfolding go_of
+returns-in-Stops c = grind (arith, let_in)
 
 pub restart-requires-clause-place : goal.restart-requires-clause-place
-restart-requires-clause-place c = of_nine _ c.requires _ (placed_in c.args.self.now c.args.s c.admit.result c.admit.ensures _ c.in_ok-c.was _ c.in-Restarts.is)
+restart-requires-clause-place c = grind (arith, let_in)
 
 pub returns-in-Restarts : goal.returns-in-Restarts
-returns-in-Restarts c = c.restart.ensures ∙ sym (let_in c.args.self.now c.args.s c.admit.result c.admit.ensures _ c.in_ok-c.was c.requires _ c.in-Restarts.is)
+unfolding go_of
+returns-in-Restarts c = grind (arith, let_in)
 
 pub roll_back-requires-clause-place : goal.roll_back-requires-clause-place
-roll_back-requires-clause-place c = of_nine _ c.requires _ (placed_in c.args.self.now c.args.s c.admit.result c.admit.ensures _ c.in_ok-c.was _ c.in-RollsBack.is).0
+roll_back-requires-clause-place c = grind (arith, let_in)
 
 pub returns-in-RollsBack : goal.returns-in-RollsBack
-returns-in-RollsBack c = c.roll_back.ensures ∙ sym (let_in c.args.self.now c.args.s c.admit.result c.admit.ensures _ c.in_ok-c.was c.requires _ c.in-RollsBack.is)
+unfolding go_of
+returns-in-RollsBack c = grind (arith, let_in)
