@@ -35,7 +35,10 @@ undamaged_made run h = joined _ _ (grind (arith, nat_tests)) h.cabinets
 versions_sound : (plan : Plan) (steps i : ℕ) (k : Cabinet) → cabinet_sound plan steps i k ≡ true
     → (j : ℕ) → entry_sound steps (get_or k.versions j factory_entry) ≡ true
 unfolding cabinet_sound
-versions_sound plan steps i k h j = grind (arith, nat_tests, record_says, version_says, version_factory, all_zero_read (version_sound steps k.kept) j k.versions, fresh_says, factory_is, factory_says, factory_made, all_zero_read factory_at j k.versions)
+versions_sound plan steps i k h j =
+    let read = all_zero_read (version_sound steps k.kept) j k.versions in
+    let read_fresh = all_zero_read factory_at j k.versions in
+    grind (arith, nat_tests, record_says, version_says, version_factory, fresh_says, factory_is, factory_says, factory_made, read, read_fresh)
 
 -- ---- each part, wherever it is read
 

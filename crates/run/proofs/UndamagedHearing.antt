@@ -72,7 +72,8 @@ module _ (plan : Plan) (steps j : ℕ) (c : Client) (m : Message) (q : Quorums p
   near w = with_within c.heard plan.n m.cabinet (address_says plan.n steps m address).2 w
 
   told_keeps : (d : Option Told) → Fair plan steps c d → Keeps plan (steps + 1) (hear_by d plan m.client j c next)
-  told_keeps d f = grind (arith, of_slot, empty_sound, address_says, best_sound, client_says, near, heard_made, first_write_keeps, first_read_keeps, second_keeps)
+  told_keeps d f =
+      grind (arith, of_slot, empty_sound, address_says, best_sound, client_says, near, heard_made, first_write_keeps, first_read_keeps, second_keeps)
 
   pub hears_keeps : Tells steps m.part m.body → Keeps plan (steps + 1) (hears_of plan j c m)
   unfolding hears_of
