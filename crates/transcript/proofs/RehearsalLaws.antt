@@ -27,7 +27,7 @@ text_append m (x ∷ l) k = rw (text_append (step_m m x) l k, append_assoc)
 parts_from : (m : Mach) (cs : List (List ℕ)) → said_by m cs ≡ text_from m (joined cs)
 unfolding text_from
 parts_from m [] = refl
-parts_from m (c ∷ cs) = ap (λ (x : List ℕ). say_all m c ++ x) (parts_from (run_m m c) cs) ∙ sym (text_append m c (joined cs))
+parts_from m (c ∷ cs) = rw (parts_from (run_m m c) cs, text_append) refl
 
 -- ---- the input's end
 
@@ -48,6 +48,11 @@ end_some p n run b l = go p (leb (length (b ∷ l)) most_line)
 
 abbrev mach : Held → Phase → ℕ → Run → Mach
 mach h p n run = record { held = h; phase = p; row = n; run = run }
+
+-- by a byte: what is so of either way
+pick : {A B : Type 0} (f : B → A) (t : Bool) (x y : A) (u v : B) → x ≡ f u → y ≡ f v → cond t x y ≡ f (cond t u v)
+pick f true x y u v e h = e
+pick f false x y u v e h = h
 
 -- one byte more: the text of the rest is that of the row that it ends, or that of a longer row
 text_byte : (p : List ℕ) (q : Phase) (n : ℕ) (run : Run) (b : ℕ) (l : List ℕ)
@@ -87,15 +92,14 @@ running_nothing n run = refl
 running_last : (n : ℕ) (run : Run) (b : ℕ) (q : List ℕ)
     → text_from (mach (holds (b ∷ q)) Phase.Running n run) [] ≡ steps_text n run ((b ∷ q) ∷ [])
 unfolding text_from say_line steps_text
-running_last n run b q = end_some Phase.Running n run b q ∙ ap (answer_text n run) (row_end (b ∷ q)) ∙ sym (append-nil _)
+running_last n run b q = rw (end_some Phase.Running n run b q, row_end (b ∷ q), append-nil) refl
 
 running_row : (p : List ℕ) (n : ℕ) (run : Run) (l : List ℕ)
     → say_line Phase.Running n run (short (holds p)) ++ text_from
     (mach (Line []) (next_phase Phase.Running (short (holds p))) (next_row Phase.Running n) (next_run Phase.Running run (short (holds p)))) l
     ≡ answer_text n run (row_of (unended p)) ++ text_from (mach (Line []) Phase.Running (n + 1) (run_after run (row_of (unended p)))) l
 unfolding say_line next_phase next_row next_run
-running_row p n run l =
-    ap (λ (x : Option Row). answer_text n run x ++ text_from (mach (Line []) Phase.Running (n + 1) (run_after run x)) l) (row_lf p)
+running_row p n run l = rw (row_lf p) refl
 
 steps_row : (n : ℕ) (run : Run) (l : List ℕ) (ls : List (List ℕ))
     → steps_text n run (l ∷ ls) ≡ answer_text n run (row_of l) ++ steps_text (n + 1) (run_after run (row_of l)) ls
@@ -112,20 +116,9 @@ unfolding rows_from
 text_running p n run [] = running_end n run p
 text_running p n run (b ∷ l) =
     text_byte p Phase.Running n run b l
-    ∙ go (eqb b 10) (text_running [] (n + 1) (run_after run (row_of (unended p))) l) (text_running (p ++ (b ∷ [])) n run l)
-  where
-    go : (t : Bool)
-        → text_from (mach (Line []) Phase.Running (n + 1) (run_after run (row_of (unended p)))) l ≡ steps_text (n + 1)
-        (run_after run (row_of (unended p))) (rows_from [] l)
-        → text_from (mach (holds (p ++ (b ∷ []))) Phase.Running n run) l ≡ steps_text n run (rows_from (p ++ (b ∷ [])) l)
-        → cond t
-        (say_line Phase.Running n run (short (holds p)) ++ text_from (mach (Line []) (next_phase Phase.Running (short (holds p))) (next_row Phase.Running n) (next_run Phase.Running run (short (holds p)))) l)
-        (text_from (mach (holds (p ++ (b ∷ []))) Phase.Running n run) l)
-        ≡ steps_text n run (cond t (unended p ∷ rows_from [] l) (rows_from (p ++ (b ∷ [])) l))
-    go true i j =
-        running_row p n run l ∙ ap (λ (x : List ℕ). answer_text n run (row_of (unended p)) ++ x) i
-        ∙ sym (steps_row n run (unended p) (rows_from [] l))
-    go false i j = j
+    ∙ pick (steps_text n run) (eqb b 10) _ _ _ _
+    (running_row p n run l ∙ rw (text_running [] (n + 1) (run_after run (row_of (unended p))) l) (sym (steps_row n run (unended p) (rows_from [] l))))
+    (text_running (p ++ (b ∷ [])) n run l)
 
 -- ---- the plan
 
@@ -137,9 +130,7 @@ after_none (Ok p) run = refl
 
 plan_alone : (x : Option Row) → plan_say 1 x ≡ plan_row_text x []
 plan_alone None = refl
-plan_alone (Some (Row.Plan n k r b)) =
-    sym
-    (ap (λ (y : List ℕ). plan_text 1 (start_of n k r b).planned ++ y) (after_none (start_of n k r b).planned (start_of n k r b).run) ∙ append-nil _)
+plan_alone (Some (Row.Plan n k r b)) = rw (after_none (start_of n k r b).planned (start_of n k r b).run, append-nil) refl
 plan_alone (Some (Row.Step s)) = refl
 
 start_text : (q : Planned) (run : Run) (l : List ℕ) → text_from (mach (Line []) (start_phase q) 2 run) l ≡ after_plan q run (rows_from [] l)
@@ -149,15 +140,14 @@ start_text (Ok p) run l = text_running [] 2 run l
 
 plan_then : (x : Option Row) (run : Run) (l : List ℕ)
     → plan_say 1 x ++ text_from (mach (Line []) (plan_phase x) 2 (plan_run run x)) l ≡ plan_row_text x (rows_from [] l)
-plan_then None run l = ap (λ (y : List ℕ). refusal_text 1 ++ y) (text_ended (Line []) 2 run l) ∙ append-nil _
-plan_then (Some (Row.Plan n k r b)) run l =
-    ap (λ (y : List ℕ). plan_text 1 (start_of n k r b).planned ++ y) (start_text (start_of n k r b).planned (start_of n k r b).run l)
-plan_then (Some (Row.Step s)) run l = ap (λ (y : List ℕ). refusal_text 1 ++ y) (text_ended (Line []) 2 run l) ∙ append-nil _
+plan_then None run l = rw (text_ended (Line []) 2 run l, append-nil) refl
+plan_then (Some (Row.Plan n k r b)) run l = rw (start_text (start_of n k r b).planned (start_of n k r b).run l) refl
+plan_then (Some (Row.Step s)) run l = rw (text_ended (Line []) 2 run l, append-nil) refl
 
 planning_end : (run : Run) (q : List ℕ) → text_from (mach (holds q) Phase.Planning 1 run) [] ≡ after_header (last_row q)
 unfolding text_from end_by say_line
 planning_end run [] = refl
-planning_end run (b ∷ q) = end_some Phase.Planning 1 run b q ∙ ap (plan_say 1) (row_end (b ∷ q)) ∙ plan_alone (row_of (b ∷ q))
+planning_end run (b ∷ q) = rw (end_some Phase.Planning 1 run b q, row_end (b ∷ q)) (plan_alone (row_of (b ∷ q)))
 
 planning_row : (p : List ℕ) (run : Run) (l : List ℕ)
     → say_line Phase.Planning 1 run (short (holds p)) ++ text_from
@@ -165,25 +155,14 @@ planning_row : (p : List ℕ) (run : Run) (l : List ℕ)
     l
     ≡ plan_row_text (row_of (unended p)) (rows_from [] l)
 unfolding say_line next_phase next_row next_run
-planning_row p run l = plan_then (row_in (short (holds p))) run l ∙ ap (λ (x : Option Row). plan_row_text x (rows_from [] l)) (row_lf p)
+planning_row p run l = rw (row_lf p) (plan_then (row_of (unended p)) run l)
 
 text_planning : (p : List ℕ) (run : Run) (l : List ℕ) → text_from (mach (holds p) Phase.Planning 1 run) l ≡ after_header (rows_from p l)
 unfolding rows_from
 text_planning p run [] = planning_end run p
 text_planning p run (b ∷ l) =
-    text_byte p Phase.Planning 1 run b l ∙ go (eqb b 10) (planning_row p run l) (text_planning (p ++ (b ∷ [])) run l)
-  where
-    go : (t : Bool)
-        → say_line Phase.Planning 1 run (short (holds p)) ++ text_from
-        (mach (Line []) (next_phase Phase.Planning (short (holds p))) (next_row Phase.Planning 1) (next_run Phase.Planning run (short (holds p))))
-        l ≡ plan_row_text (row_of (unended p)) (rows_from [] l)
-        → text_from (mach (holds (p ++ (b ∷ []))) Phase.Planning 1 run) l ≡ after_header (rows_from (p ++ (b ∷ [])) l)
-        → cond t
-        (say_line Phase.Planning 1 run (short (holds p)) ++ text_from (mach (Line []) (next_phase Phase.Planning (short (holds p))) (next_row Phase.Planning 1) (next_run Phase.Planning run (short (holds p)))) l)
-        (text_from (mach (holds (p ++ (b ∷ []))) Phase.Planning 1 run) l)
-        ≡ after_header (cond t (unended p ∷ rows_from [] l) (rows_from (p ++ (b ∷ [])) l))
-    go true i j = i
-    go false i j = j
+    text_byte p Phase.Planning 1 run b l
+    ∙ pick after_header (eqb b 10) _ _ _ _ (planning_row p run l) (text_planning (p ++ (b ∷ [])) run l)
 
 -- ---- the header row
 
@@ -194,41 +173,26 @@ header_none = same_lengths [] header (λ e. omega arith)
 head_then : (t : Bool) (run : Run) (l : List ℕ)
     → (head_text ++ cond t [] no_header_text) ++ text_from (mach (Line []) (cond t Phase.Planning Phase.Ended) 1 run) l ≡ head_text ++ cond t
     (after_header (rows_from [] l)) no_header_text
-head_then true run l =
-    ap (λ (y : List ℕ). y ++ text_from (mach (Line []) Phase.Planning 1 run) l) (append-nil head_text)
-    ∙ ap (λ (y : List ℕ). head_text ++ y) (text_planning [] run l)
-head_then false run l = ap (λ (y : List ℕ). (head_text ++ no_header_text) ++ y) (text_ended (Line []) 1 run l) ∙ append-nil _
+head_then true run l = rw (append-nil head_text, text_planning [] run l) refl
+head_then false run l = rw (text_ended (Line []) 1 run l, append-nil) refl
 
 header_end : (run : Run) (q : List ℕ) → text_from (mach (holds q) Phase.Header 1 run) [] ≡ rows_text (last_row q)
 unfolding text_from end_by say_line
-header_end run [] = ap (λ (t : Bool). head_text ++ cond t [] no_header_text) (sym header_none)
-header_end run (b ∷ q) = end_some Phase.Header 1 run b q ∙ ap (λ (t : Bool). head_text ++ cond t [] no_header_text) (head_end (b ∷ q))
+header_end run [] = rw (← header_none) refl
+header_end run (b ∷ q) = rw (end_some Phase.Header 1 run b q, head_end (b ∷ q)) refl
 
 header_row : (p : List ℕ) (run : Run) (l : List ℕ)
     → say_line Phase.Header 1 run (short (holds p)) ++ text_from
     (mach (Line []) (next_phase Phase.Header (short (holds p))) (next_row Phase.Header 1) (next_run Phase.Header run (short (holds p)))) l
     ≡ head_text ++ cond (is_header (unended p)) (after_header (rows_from [] l)) no_header_text
 unfolding say_line next_phase next_row next_run
-header_row p run l =
-    head_then (head_in (short (holds p))) run l
-    ∙ ap (λ (t : Bool). head_text ++ cond t (after_header (rows_from [] l)) no_header_text) (head_lf p)
+header_row p run l = rw (head_lf p) (head_then (is_header (unended p)) run l)
 
 text_header : (p : List ℕ) (run : Run) (l : List ℕ) → text_from (mach (holds p) Phase.Header 1 run) l ≡ rows_text (rows_from p l)
 unfolding rows_from
 text_header p run [] = header_end run p
-text_header p run (b ∷ l) = text_byte p Phase.Header 1 run b l ∙ go (eqb b 10) (header_row p run l) (text_header (p ++ (b ∷ [])) run l)
-  where
-    go : (t : Bool)
-        → say_line Phase.Header 1 run (short (holds p)) ++ text_from
-        (mach (Line []) (next_phase Phase.Header (short (holds p))) (next_row Phase.Header 1) (next_run Phase.Header run (short (holds p)))) l
-        ≡ head_text ++ cond (is_header (unended p)) (after_header (rows_from [] l)) no_header_text
-        → text_from (mach (holds (p ++ (b ∷ []))) Phase.Header 1 run) l ≡ rows_text (rows_from (p ++ (b ∷ [])) l)
-        → cond t
-        (say_line Phase.Header 1 run (short (holds p)) ++ text_from (mach (Line []) (next_phase Phase.Header (short (holds p))) (next_row Phase.Header 1) (next_run Phase.Header run (short (holds p)))) l)
-        (text_from (mach (holds (p ++ (b ∷ []))) Phase.Header 1 run) l)
-        ≡ rows_text (cond t (unended p ∷ rows_from [] l) (rows_from (p ++ (b ∷ [])) l))
-    go true i j = i
-    go false i j = j
+text_header p run (b ∷ l) =
+    text_byte p Phase.Header 1 run b l ∙ pick rows_text (eqb b 10) _ _ _ _ (header_row p run l) (text_header (p ++ (b ∷ [])) run l)
 
 -- ---- the whole
 

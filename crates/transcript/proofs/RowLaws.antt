@@ -78,19 +78,10 @@ lf_say h n run = append-nil _
 
 module _ (l : List ℕ) (n : ℕ) (run : Run) (bare : breaks l ≡ 0) where
   row_run : run_m (at_row n run) (l ++ (10 ∷ [])) ≡ at_row (n + 1) (run_after run (row_of (unended l)))
-  row_run =
-      run_append (at_row n run) l (10 ∷ [])
-      ∙ ap (λ (m : Mach). run_m m (10 ∷ [])) (bare_run [] l n run bare)
-      ∙ lf_run (holds l) n run
-      ∙ ap (λ (x : Option Row). at_row (n + 1) (run_after run x)) (row_lf l)
+  row_run = rw (run_append, bare_run [] l n run bare, lf_run (holds l) n run, row_lf l) refl
 
   row_say : say_all (at_row n run) (l ++ (10 ∷ [])) ≡ answer_text n run (row_of (unended l))
-  row_say =
-      say_append (at_row n run) l (10 ∷ [])
-      ∙ ap (λ (x : List ℕ). x ++ say_all (run_m (at_row n run) l) (10 ∷ [])) (bare_say (at_row n run) l bare)
-      ∙ ap (λ (m : Mach). say_all m (10 ∷ [])) (bare_run [] l n run bare)
-      ∙ lf_say (holds l) n run
-      ∙ ap (answer_text n run) (row_lf l)
+  row_say = rw (say_append, bare_say (at_row n run) l bare, bare_run [] l n run bare, lf_say (holds l) n run, row_lf l) refl
 
 -- ---- as a step
 
@@ -107,32 +98,25 @@ refused_text n = refl
 
 module _ (run : Run) (sound : undamaged run ≡ true) where
   pub asked_run : (x : Option Row) → run_after run x ≡ (step_of run (step_in x)).run
-  asked_run None = sym (ap (λ (t : Stepped). t.run) (no_kind run sound))
-  asked_run (Some (Row.Plan a b c d)) = sym (ap (λ (t : Stepped). t.run) (no_kind run sound))
+  asked_run None = rw (no_kind run sound) refl
+  asked_run (Some (Row.Plan a b c d)) = rw (no_kind run sound) refl
   asked_run (Some (Row.Step s)) = refl
 
   pub asked_say : (n : ℕ) (x : Option Row) → answer_text n run x ≡ step_text n (step_of run (step_in x)).answer
-  asked_say n None = refused_text n ∙ sym (ap (λ (t : Stepped). step_text n t.answer) (no_kind run sound))
-  asked_say n (Some (Row.Plan a b c d)) = refused_text n ∙ sym (ap (λ (t : Stepped). step_text n t.answer) (no_kind run sound))
+  asked_say n None = rw (no_kind run sound) (refused_text n)
+  asked_say n (Some (Row.Plan a b c d)) = rw (no_kind run sound) (refused_text n)
   asked_say n (Some (Row.Step s)) = refl
 
 -- ---- lines, each with its LF
 
 module _ (run : Run) (sound : undamaged run ≡ true) (n : ℕ) (l : List ℕ) (bare : breaks l ≡ 0) where
   line_run : (k : List ℕ) → run_m (at_row n run) (l ++ (10 ∷ k)) ≡ run_m (at_row (n + 1) (step_of run (step_in (row_of (unended l)))).run) k
-  line_run k =
-      ap (run_m (at_row n run)) (sym (append_assoc l (10 ∷ []) k))
-      ∙ run_append (at_row n run) (l ++ (10 ∷ [])) k
-      ∙ ap (λ (m : Mach). run_m m k) (row_run l n run bare ∙ ap (at_row (n + 1)) (asked_run run sound (row_of (unended l))))
+  line_run k = rw (← append_assoc l (10 ∷ []) k, run_append, row_run l n run bare, asked_run run sound) refl
 
   line_say : (k : List ℕ)
       → say_all (at_row n run) (l ++ (10 ∷ k)) ≡ step_text n (step_of run (step_in (row_of (unended l)))).answer ++ say_all
       (at_row (n + 1) (step_of run (step_in (row_of (unended l)))).run) k
-  line_say k =
-      ap (say_all (at_row n run)) (sym (append_assoc l (10 ∷ []) k))
-      ∙ say_append (at_row n run) (l ++ (10 ∷ [])) k
-      ∙ ap (λ (x : List ℕ). x ++ say_all (run_m (at_row n run) (l ++ (10 ∷ []))) k) (row_say l n run bare ∙ asked_say run sound n (row_of (unended l)))
-      ∙ ap (λ (m : Mach). step_text n (step_of run (step_in (row_of (unended l)))).answer ++ say_all m k) (row_run l n run bare ∙ ap (at_row (n + 1)) (asked_run run sound (row_of (unended l))))
+  line_say k = rw (← append_assoc l (10 ∷ []) k, say_append, row_run l n run bare, row_say l n run bare, asked_run run sound, asked_say run sound) refl
 
 pub lines_run : (ls : List (List ℕ)) (n : ℕ) (run : Run) → undamaged run ≡ true → breaks_in ls ≡ 0
     → run_m (at_row n run) (closed ls) ≡ at_row (n + length ls) (run_all run (steps_in ls))

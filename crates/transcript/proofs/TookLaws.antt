@@ -35,10 +35,10 @@ step_sound r due = rw (step_is_running r.phase r.len due).0 at r.sound
 
 module _ (m₀ m : Mach) (s : List ℕ) (u : ℕ) (start : Mach) where
   split_run : m ≡ run_m m₀ (take u s) → m ≡ start → run_m start (drop u s) ≡ run_m m₀ s
-  split_run e f = rw (← f, e) (sym (run_append m₀ (take u s) (drop u s)) ∙ ap (run_m m₀) (take-append-drop u s))
+  split_run e f = rw (← f, e, ← run_append, take-append-drop) refl
 
   split_say : m ≡ run_m m₀ (take u s) → m ≡ start → say_all m₀ (take u s) ++ say_all start (drop u s) ≡ say_all m₀ s
-  split_say e f = rw (← f, e) (sym (say_append m₀ (take u s) (drop u s)) ∙ ap (say_all m₀) (take-append-drop u s))
+  split_say e f = rw (← f, e, ← say_append, take-append-drop) refl
 
 module _ (s : List ℕ) (at row : ℕ) (run held : Run) (d e : List ℕ) (w : Went) (sound : undamaged run ≡ true) (k : Took s at row run d e held w) where
   took_goes : run_m (at_row row run) (take w.used s) ≡ at_row w.row held
