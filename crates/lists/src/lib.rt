@@ -47,7 +47,7 @@ pub fn take_list(run: &mut Run, steps: &[Step], answers: &mut [u8]) -> Whole
         return Ok(());
     }
     for (i, s) in steps.iter().enumerate() {
-        answers[i] = answer_number(run.go(*s));
+        answers[i] = answer_number(run.go(*s, true));
     }
     Ok(())
 }

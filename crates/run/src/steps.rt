@@ -22,14 +22,22 @@ impl Run {
     pub fn take(&mut self, s: Step) -> Answer
         ensures { record { answer = result; run = self.new } ≡ step_of self.old s }
     {
-        if !self.undamaged() {
-            return Err(Refusal::Damaged);
-        }
-        self.go(s)
+        let sound = self.undamaged();
+        self.go(s, sound)
     }
 
     // The step behind its damage check, for a caller that looks at the run once and takes many.
-    pub fn go(&mut self, s: Step) -> Answer
+    pub fn go(&mut self, s: Step, sound: bool) -> Answer
+        requires { sound ≡ undamaged self.old }
+        ensures { record { answer = result; run = self.new } ≡ step_of self.old s }
+    {
+        if !sound {
+            return Err(Refusal::Damaged);
+        }
+        self.by_kind(s)
+    }
+
+    fn by_kind(&mut self, s: Step) -> Answer
         requires { undamaged self.old ≡ true }
         ensures { record { answer = result; run = self.new } ≡ step_of self.old s }
     {

@@ -68,7 +68,7 @@ impl Rehearsal {
         ensures { Acted Phase.Running (held_of self.old.len self.old.line) self.old self.new out.old at out.new result }
     {
         let step = step_of(self.says());
-        let answer = self.run.go(step);
+        let answer = self.run.go(step, true);
         let row = self.row;
         self.row += 1;
         put_step(out, at, row, answer)

@@ -28,7 +28,7 @@ pub fn steps(s: &[u8], out: &mut [u8], at: usize, row: u64, run: &mut Run) -> We
 {
     let mut went = Went { used: 0, at, row };
     while let Some(found) = find(s, went.used) {
-        let answer = run.go(found.step);
+        let answer = run.go(found.step, true);
         went.at = put_step(out, went.at, went.row, answer);
         went.used = found.end;
         went.row += 1;
