@@ -5,7 +5,7 @@ use Rattle.std.proofs.Common.{ℕ, ◌≡◌, sym, ap, ◌∙◌, Bool}
 use Rattle.run.specs.Names.{Answer, Sight, Started, Stepped}
 use Rattle.run.proofs.fresh.start.Reads as start
 use Rattle.run.proofs.gather.is_empty.Reads as is-empty
-use Rattle.run.proofs.Run.others_marked.Reads as others-marked
+use Rattle.run.proofs.gather.others_marked.Reads as others-marked
 use Rattle.run.proofs.gather.sight.Reads as sight
 use Rattle.run.proofs.Run.undamaged.Reads as undamaged
 use Rattle.run.proofs.Run.go.Reads as go

@@ -6,7 +6,7 @@ ghost use Rattle.run.specs.Gather.{is_empty, first_from, others_from};
 
 use super::Run;
 use cabinet::Cabinet;
-use limits::byte;
+use limits::{MOST_CABINETS, byte};
 use types::{Held, Sight, Slot};
 
 pub fn is_empty(t: &Slot) -> bool
@@ -17,7 +17,7 @@ pub fn is_empty(t: &Slot) -> bool
 
 impl Run {
     // S6.2, S20.3: the lowest free slot.
-    pub fn first_free(&self) -> Option<u8>
+    pub(super) fn first_free(&self) -> Option<u8>
         ensures free { IfSome result (λ j. (first_from 0 self.now.slots ≡ j) × (j < most_slots)) }
         ensures full { IfNone result (most_slots ≤ first_from 0 self.now.slots) }
     {
@@ -30,17 +30,16 @@ impl Run {
         }
         free
     }
+}
 
-    pub fn others_marked(&self, p: u8) -> u8
-        ensures { result ≡ others_from p 0 self.now.cabinets }
-    {
-        let others = self
-            .cabinets
-            .iter()
-            .enumerate()
-            .filter(|(i, k)| *i != p as usize && k.marked);
-        others.count() as u8
-    }
+pub fn others_marked(p: u8, cabinets: &[Cabinet; MOST_CABINETS]) -> u8
+    ensures { result ≡ others_from p 0 cabinets.now }
+{
+    let others = cabinets
+        .iter()
+        .enumerate()
+        .filter(|(i, k)| *i != p as usize && k.marked);
+    others.count() as u8
 }
 
 pub fn sight(k: &Cabinet) -> Sight

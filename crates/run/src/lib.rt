@@ -8,6 +8,7 @@ mod steps;
 
 use cabinet::Cabinet;
 pub use fresh::{Started, start};
+pub use gather::{is_empty, others_marked, sight};
 use limits::{MOST_CABINETS, MOST_CLIENTS, MOST_SLOTS};
 use plan::Plan;
 use types::{Client, Slot};

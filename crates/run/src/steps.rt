@@ -8,7 +8,7 @@ ghost use Rattle.run.specs.Steps.{slot_at, stepped_of, step_of};
 ghost use Rattle.run.specs.Undamaged.{undamaged};
 
 use super::Run;
-use super::gather::{is_empty, sight};
+use super::gather::{is_empty, others_marked, sight};
 use admit::admit;
 use cabinet::has_version;
 use client::hear::hear;
@@ -193,7 +193,7 @@ impl Run {
         if !has_version(stored, k.present().stamp, k.kept, j) {
             return Err(Refusal::NoVersion);
         }
-        if !may_roll(k.marked, self.others_marked(p), self.plan.r) {
+        if !may_roll(k.marked, others_marked(p, &self.cabinets), self.plan.r) {
             return Err(Refusal::TooMany);
         }
         self.cabinets[p as usize].rollback(stored, j);
