@@ -1,5 +1,5 @@
 // Which steps are let in, and their places counted from 0.
-ghost use Rattle.std.specs.Prelude.{◌≡◌, cond, true, false, ◌-◌, IfOk, IfErr};
+ghost use Rattle.std.specs.Prelude.{◌≡◌, true, false, ◌-◌, IfOk, IfErr};
 ghost use Rattle.cabinet.specs.Entries.{reading_in};
 ghost use Rattle.admit.specs.Names.{Refusal, Work, Ok};
 ghost use Rattle.admit.specs.Admit.{one_to, in_range, placed, admit_of};

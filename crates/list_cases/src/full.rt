@@ -8,29 +8,30 @@ use types::Step;
 // A step more than a list may have.
 pub const ROWS: usize = MOST_LISTED + 1;
 
-const ROUND: usize = 16;
-
 // One part of a write to three of four cabinets; then a second stop, a cabinet that is none, an empty slot and a step of no kind.
-fn round() -> [Step; ROUND] {
-    let mut l = [Step::Deliver(1); ROUND];
-    l[0] = Step::Write(1, Reading::Open(6));
-    l[1] = Step::Send(1, 1);
-    l[4] = Step::Send(1, 2);
-    l[7] = Step::Send(1, 3);
-    l[10] = Step::Stop(4);
-    l[11] = Step::Stop(4);
-    l[12] = Step::Restart(4);
-    l[13] = Step::Send(1, 9);
-    l[14] = Step::Lose(1);
-    l[15] = Step::Other;
-    l
-}
+const ROUND: [Step; 16] = [
+    Step::Write(1, Reading::Open(6)),
+    Step::Send(1, 1),
+    Step::Deliver(1),
+    Step::Deliver(1),
+    Step::Send(1, 2),
+    Step::Deliver(1),
+    Step::Deliver(1),
+    Step::Send(1, 3),
+    Step::Deliver(1),
+    Step::Deliver(1),
+    Step::Stop(4),
+    Step::Stop(4),
+    Step::Restart(4),
+    Step::Send(1, 9),
+    Step::Lose(1),
+    Step::Other,
+];
 
 pub fn full_list() -> [Step; ROWS] {
-    let round = round();
     let mut steps = [Step::Other; ROWS];
     for (i, s) in steps.iter_mut().enumerate() {
-        *s = round[i % ROUND];
+        *s = ROUND[i % ROUND.len()];
     }
     steps
 }

@@ -35,8 +35,8 @@ pub fn compare(rt: &impl Print, name: &str, s: &[u8]) -> io::Result<()>
     let Some(begun) = cases::begin(s) else {
         return show::no_plan(rt, name);
     };
-    show::list(rt, name, 1, pieces(s, &begun, 1))?;
-    show::list(rt, name, 7, pieces(s, &begun, 7))?;
-    show::list(rt, name, 255, pieces(s, &begun, 255))?;
-    show::list(rt, name, 256, pieces(s, &begun, 256))
+    for most in [1, 7, 255, 256] {
+        show::list(rt, name, most, pieces(s, &begun, most))?;
+    }
+    Ok(())
 }

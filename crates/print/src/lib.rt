@@ -1,5 +1,5 @@
 // One row of a rehearsal's transcript, written into a lent buffer from a place on. Each function answers the place behind its row, and leaves
-// every other byte as it was. None tests for room: its caller does, once for each row, with `at + ROOM <= buf.len()`.
+// every other byte as it was. None tests for room: each requires it of its caller, who needs to look once for a whole part of rows.
 #![tactic(auto)]
 
 mod number;

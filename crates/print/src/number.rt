@@ -1,5 +1,5 @@
 // Decimal numbers, by two and four digits at a time: one division by 10,000 for a row number of five to eight digits.
-ghost use Rattle.std.specs.Prelude.{◌∷◌, [], ◌++◌, ◌<◌, ◌≤◌, ◌+◌, ◌-◌, length};
+ghost use Rattle.std.specs.Prelude.{◌∷◌, [], ◌++◌, ◌<◌, ◌≤◌, ◌+◌, length};
 ghost use Rattle.print.specs.Numbers.{digit, pair, four, decimal};
 ghost use Rattle.print.specs.Put.{Wrote};
 ghost use Rattle.types.specs.Texts.{bytes};

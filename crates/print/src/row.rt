@@ -30,7 +30,7 @@ fn put_profile(buf: &mut [u8], at: usize, profile: Profile) -> usize
     }
 }
 
-// Inlined, the row of an outcome that the caller knows is written with no jump by the outcome.
+// Put into the loop over the rows whole.
 #[inline(always)]
 pub fn put_step(buf: &mut [u8], at: usize, row: u64, answer: Answer) -> usize
     requires { at + room ≤ length buf.old }

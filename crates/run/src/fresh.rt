@@ -1,6 +1,5 @@
 // Planning a fresh run.
 ghost use Rattle.std.specs.Prelude.{◌≡◌};
-ghost use Rattle.plan.specs.Rule.{forgetful_plan};
 ghost use Rattle.run.specs.Start.{fresh_run, start_of};
 
 use super::Run;

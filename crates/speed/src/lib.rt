@@ -85,7 +85,7 @@ pub extern "C" fn speed_lists(lists: usize) -> u32 {
     run.steps
 }
 
-// The damage check so many times, on the run after one round of the list; how often it passed.
+// The damage check so many times, after each step of one round of the list and then on the run that it leaves; how often it passed.
 #[unsafe(no_mangle)]
 pub extern "C" fn speed_check(turns: usize) -> usize {
     let mut run = fresh();

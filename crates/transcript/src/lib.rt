@@ -21,13 +21,13 @@ pub enum Phase {
 
 // What is kept from part to part: a row's bytes so far and how many they are (MOST_LINE + 1: too many), the phase, the next row's number, and the
 // run, which is changed in place, being five kilobytes. Where steps are due it is undamaged, so that no step is checked again.
-#[derive(Drop)]
+#[derive(Clone, Copy)]
 pub struct Rehearsal {
-    line: [u8; MOST_LINE],
-    len: usize,
-    phase: Phase,
-    row: u64,
-    run: Run,
+    pub line: [u8; MOST_LINE],
+    pub len: usize,
+    pub phase: Phase,
+    pub row: u64,
+    pub run: Run,
     ghost sound: { sound_in phase run ≡ true },
 }
 
