@@ -19,6 +19,7 @@ use Rattle.desk.specs.contracts.entrance.step_lent as step-lent
 use Rattle.desk.proofs.LendLaws.{local_capped}
 use Rattle.desk.proofs.entrance.lend.Reads as lend
 use Rattle.desk.proofs.entrance.give_back.Reads as give-back
+use Rattle.desk.proofs.U8FromWrongLength.from.Reads as wrong-length-number
 
 -- what the contract says of the result r and the table at exit
 abbrev pub LentPost : Run → List Cabinet → Step → Served → List Cabinet → Type 0
@@ -67,3 +68,12 @@ give_back_decides κs a x y s s' p q = (p.1 ∙ sym q.1, p.0 ∙ sym q.0)
 
 pub give_back_any : (κs : _) (a : _) → give-back.Pre κs a
 give_back_any κs a = tt
+
+-- ---- the number of a table of another length
+
+pub wrong_length_number_decides : (κs : _) (a : _) (x y : ℕ) (s s' : _)
+    → wrong-length-number.Post κs a x s → wrong-length-number.Post κs a y s' → x ≡ y
+wrong_length_number_decides κs a x y s s' p q = p ∙ sym q
+
+pub wrong_length_number_any : (κs : _) (a : _) → wrong-length-number.Pre κs a
+wrong_length_number_any κs a = tt

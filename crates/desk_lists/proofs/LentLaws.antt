@@ -1,6 +1,6 @@
 -- A list over a lent table is the list of the run that has these records: step by step, and each way through the entrance. Assumes nothing.
 use Prim.Native.Nat.{ℕ, ◌-◌, ◌≤◌, ◌<◌}
-use mathlib.Core.Bool.{Bool, true, false}
+use mathlib.Core.Bool.{Bool, true, false, cond}
 use mathlib.Core.List.{List, [], ◌∷◌, ◌++◌}
 use mathlib.Core.Path.{◌≡◌, refl, sym, ap, ap₂, ◌∙◌}
 use native.Mathlib.Omega.{arith}
@@ -15,8 +15,8 @@ use Rattle.run.specs.Undamaged.{undamaged}
 use Rattle.desk.specs.Desk.{lent_number, with_cabinets, with_records, nine_of, given_back, lent_of, table_of}
 use Rattle.desk.proofs.DeskLaws.{as_step, own_kept, table_length}
 use Rattle.desk.proofs.LendLaws.{too_long, view_is, back_few, back_same, lent_wrong, table_wrong}
-use Rattle.lists.specs.Whole.{fits, numbers_of, in_front, taken_of, list_of}
-use Rattle.lists.proofs.ListLaws.{list_taken, runs_damaged, numbers_damaged}
+use Rattle.lists.specs.Whole.{fits, numbers_of, in_front, taken_of, untaken_of, list_of}
+use Rattle.lists.proofs.ListLaws.{list_untaken, list_taken, runs_damaged, numbers_damaged}
 use Rattle.desk_lists.specs.Names.{Cabinet, Listed, Ok, Run, Step}
 use Rattle.desk_lists.specs.Lent.{lent_run, lent_table, lent_numbers, lent_taken_of, lent_untaken_of, lent_list_of}
 use Rattle.desk_lists.proofs.BehindLaws.{behind_step, same_step}
@@ -127,18 +127,27 @@ module _ (run : Run) (ys : List Cabinet) (steps : List Step) (table : List ℕ) 
   unfolding lent_list_of
   lent_untaken e = rw e
 
-  pub list_wrong : fits (length steps) (length table) ≡ true → eqb (length ys) run.plan.n ≡ false
-      → (record { whole = Ok tt; run = run }, ys, in_front (replicate (length steps) 14) table) ≡ lent_list_of run ys steps table
-  unfolding lent_taken_of
-  list_wrong f other = rw (wrong_run run ys other steps, wrong_table run ys other steps, wrong_numbers run ys other steps) at lent_taken f
+  -- a table of another length: 14 to each step of a list that fits
+  pub list_wrong : eqb (length ys) run.plan.n ≡ false
+      → cond (fits (length steps) (length table))
+      (record { whole = Ok tt; run = run }, ys, in_front (replicate (length steps) 14) table) (lent_untaken_of run ys table)
+      ≡ lent_list_of run ys steps table
+  unfolding lent_list_of lent_taken_of
+  list_wrong other = rw (wrong_run run ys other steps, wrong_table run ys other steps, wrong_numbers run ys other steps)
 
   -- what comes of a list of the run with nine records, when the table is given back
   abbrev pub puts : Listed × List ℕ → Listed × List Cabinet × List ℕ
   puts z = (record { whole = z.0.whole; run = with_cabinets z.0.run run.cabinets }, given_back z.0.run.cabinets ys, z.1)
 
-  pub list_right : (z : Listed × List ℕ) → fits (length steps) (length table) ≡ true → length ys ≡ run.plan.n
+  pub list_right : (z : Listed × List ℕ) → length ys ≡ run.plan.n
       → z ≡ list_of (with_cabinets run (nine_of ys)) steps table → puts z ≡ lent_list_of run ys steps table
-  unfolding taken_of lent_taken_of
-  list_right z f same e =
-      let s = all_same run ys same steps in
-      ap puts (e ∙ sym (list_taken (view_of run ys) steps table f)) ∙ rw (s.its_run, s.its_records, s.its_numbers) (lent_taken f)
+  unfolding taken_of untaken_of lent_taken_of lent_untaken_of run_all
+  list_right z same e = go _ refl
+    where
+      go : (t : Bool) → fits (length steps) (length table) ≡ t → puts z ≡ lent_list_of run ys steps table
+      go true f =
+          let s = all_same run ys same steps in
+          ap puts (e ∙ sym (list_taken (view_of run ys) steps table f)) ∙ rw (s.its_run, s.its_records, s.its_numbers) (lent_taken f)
+      go false f =
+          let s = all_same run ys same [] in
+          ap puts (e ∙ sym (list_untaken (view_of run ys) steps table f)) ∙ rw (s.its_run, s.its_records) (lent_untaken f)

@@ -8,6 +8,7 @@ use mathlib.Core.Path.{◌≡◌, sym, ap, ◌∙◌}
 use Rattle.lists.specs.Names.{Listed, Whole}
 use Rattle.lists.proofs.fits.Reads as fits
 use Rattle.lists.proofs.take_list.Reads as take-list
+use Rattle.lists.proofs.U8FromNoRoom.from.Reads as no-room-number
 
 pub take_list_decides : (κs : _) (a : _) (r r' : Whole) (s s' : _) → take-list.Post κs a r s → take-list.Post κs a r' s'
     → (r ≡ r') × (s.0.now ≡ s'.0.now) × (s.1.1.0.now ≡ s'.1.1.0.now)
@@ -23,3 +24,9 @@ fits_decides κs a x y s s' p q = p ∙ sym q
 
 pub fits_any : (κs : _) (a : _) → fits.Pre κs a
 fits_any κs a = tt
+
+pub no_room_number_decides : (κs : _) (a : _) (x y : ℕ) (s s' : _) → no-room-number.Post κs a x s → no-room-number.Post κs a y s' → x ≡ y
+no_room_number_decides κs a x y s s' p q = p ∙ sym q
+
+pub no_room_number_any : (κs : _) (a : _) → no-room-number.Pre κs a
+no_room_number_any κs a = tt

@@ -15,7 +15,7 @@ returns-then-table-run c =
     let written = c.fill.ensures.after (λ y e. e) in
     let filled = front_filled (length a.steps.now) c.from.result 14 a.answers.now c.fill.new.self room written c.from.ensures in
     ap (λ (l : List ℕ). (record { whole = Ok tt; run = a.run.now }, a.table.now, l)) filled
-    ∙ list_wrong a.run.now a.table.now a.steps.now a.answers.now room (ne_eqb _ _ c.if-table-run.true)
+    ∙ rw room at (list_wrong a.run.now a.table.now a.steps.now a.answers.now (ne_eqb _ _ c.if-table-run.true))
 
 pub returns : goal.returns
 returns c =
@@ -27,4 +27,4 @@ returns c =
     c.give_back.ensures.own ∙ ap (with_cabinets z.0.run) c.lend-own.ensures.own in
     ap (λ (r : Run). (record { whole = z.0.whole; run = r }, c.give_back.new.table, z.1)) own
     ∙ ap (λ (l : List Cabinet). (record { whole = z.0.whole; run = with_cabinets z.0.run a.run.now.cabinets }, l, z.1)) c.give_back.ensures.lent
-    ∙ list_right a.run.now a.table.now a.steps.now a.answers.now z (sym c.fits.ensures ∙ c.if-not-fits.false) c.if-table-run.false took
+    ∙ list_right a.run.now a.table.now a.steps.now a.answers.now z c.if-table-run.false took
