@@ -23,7 +23,7 @@ def files(rev, ending):
 
 def functions(text):
     """Name, parameters, result and body of each function; clauses belong to none of them."""
-    for m in re.finditer(r'^( *)(?:pub )?(?:extern "C" )?fn (\w+)(?:<[^>]*>)?\(', text, re.M):
+    for m in re.finditer(r'^( *)(?:pub(?:\(\w+\))? )?(?:extern "C" )?fn (\w+)(?:<[^>]*>)?\(', text, re.M):
         end, depth = m.end(), 1
         while depth:
             depth += {'(': 1, ')': -1}.get(text[end], 0)

@@ -10,7 +10,7 @@ use lists::{NoRoom, Whole, fits, take_list};
 use run::Run;
 use types::Step;
 
-// S21.6: the records are lent once for the whole list.
+// S20.9, S21.6. Steps, records and answers are lent slices; the records go into the run once for the whole list.
 #[tactic(auto, using(crate::proofs::LentLaws::lent_untaken), unfolding(crate::specs::Lent::lent_untaken_of))]
 pub fn list_lent(run: &mut Run, table: &mut [Cabinet], steps: &[Step], answers: &mut [u8]) -> Whole
     ensures { (record { whole = result; run = run.new }, table.new, answers.new) ≡ lent_list_of run.old table.old steps.now answers.old }

@@ -34,7 +34,7 @@ pub fn fits(count: usize, places: usize) -> bool
     count <= MOST_LISTED && count <= places
 }
 
-// S21.3: the run is looked at once, before the first step: none of them damages it.
+// S20.9, S21.3. Steps and answers are lent slices; the run is looked at once, before the first step, since none of them damages it.
 #[tactic(auto, using(crate::proofs::ListLaws::list_untaken), unfolding(crate::specs::Whole::untaken_of))]
 pub fn take_list(run: &mut Run, steps: &[Step], answers: &mut [u8]) -> Whole
     ensures { (record { whole = result; run = run.new }, answers.new) ≡ list_of run.old steps.now answers.old }
