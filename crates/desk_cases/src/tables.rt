@@ -1,7 +1,4 @@
 // Tables of a wrong length, and damaged records: lent, the run's own, and past those lent.
-ghost use Rattle.std.specs.Prelude.{◌≤◌};
-ghost use Rattle.limits.specs.Limits.{most_cabinets};
-
 use super::show;
 use cabinet::Cabinet;
 use desk::{Lent, step_lent};
@@ -24,12 +21,10 @@ fn answered(
     table: &[Cabinet; MOST_CABINETS],
     len: usize,
     word: &str,
-) -> io::Result<()>
-    requires { len ≤ most_cabinets }
-{
+) -> io::Result<()> {
     let mut after = *run;
     let mut left = *table;
-    let lent = step_lent(&mut after, &mut left[..len], Step::Stop(1));
+    let lent = step_lent(&mut after, &mut left[..len.min(MOST_CABINETS)], Step::Stop(1));
     show::table(rt, lent_number(lent), word, after == *run && left == *table)
 }
 

@@ -1,10 +1,10 @@
 // Steps taken singly, in one go by a run, and in one go over a lent table; the places lent stand in front of a marked buffer.
 ghost use Rattle.std.specs.Prelude.{◌≤◌};
-ghost use Rattle.limits.specs.Limits.{most_cabinets};
 ghost use Rattle.list_cases.specs.Sizes.{most_places};
 
 use super::told::{Desk, Told};
 use desk_lists::list_lent;
+use limits::MOST_CABINETS;
 use lists::{Whole, take_list};
 use types::{Step, answer_number};
 
@@ -33,12 +33,12 @@ pub fn by_run(desk: &Desk, steps: &[Step], places: usize) -> Told
 }
 
 pub fn lent(desk: &Desk, len: usize, steps: &[Step], places: usize) -> Told
-    requires { (len ≤ most_cabinets) × (places ≤ most_places) }
+    requires { places ≤ most_places }
 {
     let mut told = Told::kept(0, desk);
     let whole = list_lent(
         &mut told.desk.run,
-        &mut told.desk.table[..len],
+        &mut told.desk.table[..len.min(MOST_CABINETS)],
         steps,
         &mut told.answers[..places],
     );

@@ -1,6 +1,5 @@
 // The edges of both calls: how many steps, how many places, damage, and tables of a wrong length.
 ghost use Rattle.std.specs.Prelude.{◌≤◌};
-ghost use Rattle.limits.specs.Limits.{most_cabinets};
 ghost use Rattle.list_cases.specs.Sizes.{most_places, most_rows};
 
 use super::full::{begun, full_list, refused};
@@ -29,7 +28,7 @@ struct Edge<'a> {
     len: usize,
     count: usize,
     places: usize,
-    ghost within: { (len ≤ most_cabinets) × (count ≤ most_rows) × (places ≤ most_places) },
+    ghost within: { (count ≤ most_rows) × (places ≤ most_places) },
 }
 
 impl Edge<'_> {
@@ -64,7 +63,7 @@ impl Edge<'_> {
 }
 
 fn at<'a>(name: &'a str, desk: &'a Desk, len: usize, count: usize, places: usize) -> Edge<'a>
-    requires { (len ≤ most_cabinets) × (count ≤ most_rows) × (places ≤ most_places) }
+    requires { (count ≤ most_rows) × (places ≤ most_places) }
 {
     Edge {
         name,
@@ -104,9 +103,7 @@ fn damaged_record(rt: &impl Print, d: &Desk) -> io::Result<()> {
     at("a damaged record", d, RECORDS, MOST_LISTED, PLACES).lent(rt, &want, EACH_1)
 }
 
-fn wrong_length(rt: &impl Print, d: &Desk, len: usize) -> io::Result<()>
-    requires { len ≤ most_cabinets }
-{
+fn wrong_length(rt: &impl Print, d: &Desk, len: usize) -> io::Result<()> {
     let each = Told::each(14, MOST_LISTED, d);
     let kept = Told::kept(16, d);
     at("a wrong length", d, len, MOST_LISTED, PLACES).lent(rt, &each, EACH_14)?;
