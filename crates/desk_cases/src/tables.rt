@@ -24,7 +24,11 @@ fn answered(
 ) -> io::Result<()> {
     let mut after = *run;
     let mut left = *table;
-    let lent = step_lent(&mut after, &mut left[..len.min(MOST_CABINETS)], Step::Stop(1));
+    let lent = step_lent(
+        &mut after,
+        &mut left[..len.min(MOST_CABINETS)],
+        Step::Stop(1),
+    );
     show::table(rt, lent_number(lent), word, after == *run && left == *table)
 }
 
