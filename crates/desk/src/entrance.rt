@@ -1,6 +1,5 @@
 // The entrance over a lent table. The lent records stand in the run while it takes its step, and its own are put aside.
 ghost use Rattle.std.specs.Prelude.{◌≡◌};
-ghost use Rattle.desk.specs.Names.{Run};
 ghost use Rattle.desk.specs.Desk.{with_cabinets, nine_of, given_back, lent_of, table_of};
 
 use super::{Lent, WrongLength};

@@ -1,18 +1,11 @@
 // Tables of a wrong length, and damaged records: lent, the run's own, and past those lent.
 use super::show;
 use cabinet::Cabinet;
-use desk::{Lent, step_lent};
+use desk::step_lent;
 use limits::MOST_CABINETS;
 use run::Run;
 use std::io;
 use types::{Step, answer_number};
-
-fn lent_number(lent: Lent) -> u8 {
-    match lent {
-        Ok(answer) => answer_number(answer),
-        Err(why) => u8::from(why),
-    }
-}
 
 // The first `len` records are lent for one step; it is said where that left all as it was.
 fn answered(
@@ -29,7 +22,8 @@ fn answered(
         &mut left[..len.min(MOST_CABINETS)],
         Step::Stop(1),
     );
-    show::table(rt, lent_number(lent), word, after == *run && left == *table)
+    let number = lent.map_or_else(|why| u8::from(why), |answer| answer_number(answer));
+    show::table(rt, number, word, after == *run && left == *table)
 }
 
 fn lengths(rt: &impl Print, run: &Run) -> io::Result<()> {

@@ -5,15 +5,8 @@ ghost use Rattle.list_cases.specs.Sizes.{most_places};
 use super::told::{Desk, Told};
 use desk_lists::list_lent;
 use limits::MOST_CABINETS;
-use lists::{Whole, take_list};
+use lists::take_list;
 use types::{Step, answer_number};
-
-fn whole_number(whole: Whole) -> u8 {
-    match whole {
-        Ok(()) => 0,
-        Err(why) => u8::from(why),
-    }
-}
 
 pub fn singly(desk: &Desk, steps: &[Step]) -> Told {
     let mut told = Told::kept(0, desk);
@@ -28,7 +21,7 @@ pub fn by_run(desk: &Desk, steps: &[Step], places: usize) -> Told
 {
     let mut told = Told::kept(0, desk);
     let whole = take_list(&mut told.desk.run, steps, &mut told.answers[..places]);
-    told.number = whole_number(whole);
+    told.number = whole.map_or_else(|why| u8::from(why), |()| 0);
     told
 }
 
@@ -42,6 +35,6 @@ pub fn lent(desk: &Desk, len: usize, steps: &[Step], places: usize) -> Told
         steps,
         &mut told.answers[..places],
     );
-    told.number = whole_number(whole);
+    told.number = whole.map_or_else(|why| u8::from(why), |()| 0);
     told
 }

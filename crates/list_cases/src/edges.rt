@@ -113,7 +113,7 @@ fn wrong_length(rt: &impl Print, d: &Desk, len: usize) -> io::Result<()> {
 pub fn all(rt: &impl Print) -> io::Result<()> {
     let d = begun();
     let told = at("a full list", &d, RECORDS, MOST_LISTED, PLACES).singly();
-    show::refused(rt, MOST_LISTED, refused(&told, MOST_LISTED))?;
+    show::refused(rt, MOST_LISTED, refused(&told.answers[..MOST_LISTED]))?;
     counts(rt, &d)?;
     places(rt, &d)?;
     damaged(rt, &damage::step_count(&d))?;

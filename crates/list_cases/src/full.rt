@@ -1,8 +1,9 @@
 // A full list of which some steps are refused, and a run that is on its way when the list comes.
 use super::calls;
-use super::told::{Desk, Told};
+use super::told::Desk;
 use cabinet::Reading;
 use lists::MOST_LISTED;
+use std::array;
 use types::Step;
 
 // A step more than a list may have.
@@ -29,11 +30,7 @@ const ROUND: [Step; 16] = [
 ];
 
 pub fn full_list() -> [Step; ROWS] {
-    let mut steps = [Step::Other; ROWS];
-    for (i, s) in steps.iter_mut().enumerate() {
-        *s = ROUND[i % ROUND.len()];
-    }
-    steps
+    array::from_fn(|i| ROUND[i % ROUND.len()])
 }
 
 // The run has four cabinets, the fourth down, and its first client is in the second part of a write.
@@ -43,7 +40,7 @@ pub fn begun() -> Desk {
     Desk::of(&begun.desk.run)
 }
 
-// How many of the first answers are refusals.
-pub fn refused(told: &Told, count: usize) -> usize {
-    told.answers.iter().take(count).filter(|n| **n > 0).count()
+// How many of the answers are refusals.
+pub fn refused(answers: &[u8]) -> usize {
+    answers.iter().filter(|n| **n > 0).count()
 }

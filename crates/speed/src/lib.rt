@@ -6,6 +6,7 @@ ghost use Rattle.std.specs.Prelude.{◌<◌, length};
 use cabinet::Reading;
 use lists::{MOST_LISTED, take_list};
 use run::{Run, start};
+use std::array;
 use types::Step;
 
 // How many steps one round of the list has.
@@ -41,11 +42,7 @@ const LIST: [Step; ROUND] = [
 
 // As many rounds as a list may have, the last one cut short.
 fn whole_list() -> [Step; MOST_LISTED] {
-    let mut steps = [Step::Other; MOST_LISTED];
-    for (i, s) in steps.iter_mut().enumerate() {
-        *s = LIST[i % ROUND];
-    }
-    steps
+    array::from_fn(|i| LIST[i % ROUND])
 }
 
 fn fresh() -> Run {
