@@ -6,13 +6,13 @@ use mathlib.Core.List.{List, [], ◌∷◌, ◌++◌, append_assoc, append-nil}
 use mathlib.Core.Path.{◌≡◌, refl, sym, ◌∙◌, ap}
 use lib.ListN.{length}
 use lib.Dec.{eqb, leb}
-use Rattle.transcript.specs.Names.{Err, None, Ok, Option, Phase, Planned, Row, Run, Some, Unplanned}
+use Rattle.transcript.specs.Names.{Err, None, Ok, Option, Phase, Planned, Row, Run, Some}
 use Rattle.run.specs.Start.{start_of}
 use Rattle.text.specs.Words.{header}
 use Rattle.text.specs.Rows.{row_of, is_header}
 use Rattle.text.proofs.BytesLaws.{same_lengths}
 use Rattle.print.specs.Rows.{plan_text, refusal_text, no_header_text, head_text}
-use Rattle.transcript.specs.Machine.{Held, Line, Over, Mach, short, row_in, head_in, plan_say, plan_phase, plan_run, start_phase, next_phase, next_row, next_run, say_line, push, ended, step_m, say_m, run_m, say_all, end_by, text_from, start, joined, said_by, most_line}
+use Rattle.transcript.specs.Machine.{answered, Held, Line, Over, Mach, short, row_in, head_in, plan_say, plan_phase, plan_run, start_phase, next_phase, next_row, next_run, say_line, push, ended, step_m, say_m, run_m, say_all, end_by, text_from, start, joined, said_by, most_line}
 use Rattle.transcript.proofs.HeldLaws.{holds, hold_push, row_lf, row_end, head_lf, head_end}
 use Rattle.text.specs.Ends.{unended}
 use Rattle.transcript.specs.Rehearsal.{last_row, rows_from, answer_text, run_after, steps_text, after_plan, plan_row_text, after_header, rows_text, transcript}
@@ -60,7 +60,7 @@ text_byte : (p : List ℕ) (q : Phase) (n : ℕ) (run : Run) (b : ℕ) (l : List
     ≡ cond (eqb b 10)
     (say_line q n run (short (holds p)) ++ text_from (mach (Line []) (next_phase q (short (holds p))) (next_row q n) (next_run q run (short (holds p)))) l)
     (text_from (mach (holds (p ++ (b ∷ []))) q n run) l)
-unfolding text_from say_m step_m ended
+unfolding text_from say_m step_m ended answered
 text_byte p q n run b l = go (eqb b 10)
   where
     go : (t : Bool)
@@ -74,7 +74,7 @@ text_byte p q n run b l = go (eqb b 10)
     go false = ap (λ (x : Held). text_from (mach x q n run) l) (hold_push p b)
 
 text_ended : (h : Held) (n : ℕ) (run : Run) (l : List ℕ) → text_from (mach h Phase.Ended n run) l ≡ []
-unfolding text_from end_by say_m step_m ended say_line next_phase next_row next_run
+unfolding text_from end_by say_m step_m ended answered say_line next_phase next_row next_run
 text_ended h n run [] = refl
 text_ended h n run (b ∷ l) = go (eqb b 10) (text_ended (Line []) n run l) (text_ended (push h b) n run l)
   where
@@ -124,8 +124,7 @@ text_running p n run (b ∷ l) =
 
 after_none : (q : Planned) (run : Run) → after_plan q run [] ≡ []
 unfolding steps_text
-after_none (Err Unplanned.OutOfRange) run = refl
-after_none (Err Unplanned.TooSmall) run = refl
+after_none (Err w) run = refl
 after_none (Ok p) run = refl
 
 plan_alone : (x : Option Row) → plan_say 1 x ≡ plan_row_text x []
@@ -134,8 +133,7 @@ plan_alone (Some (Row.Plan n k r b)) = rw (after_none (start_of n k r b).planned
 plan_alone (Some (Row.Step s)) = refl
 
 start_text : (q : Planned) (run : Run) (l : List ℕ) → text_from (mach (Line []) (start_phase q) 2 run) l ≡ after_plan q run (rows_from [] l)
-start_text (Err Unplanned.OutOfRange) run l = text_ended (Line []) 2 run l
-start_text (Err Unplanned.TooSmall) run l = text_ended (Line []) 2 run l
+start_text (Err w) run l = text_ended (Line []) 2 run l
 start_text (Ok p) run l = text_running [] 2 run l
 
 plan_then : (x : Option Row) (run : Run) (l : List ℕ)

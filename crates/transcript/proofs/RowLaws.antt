@@ -18,7 +18,7 @@ use Rattle.text.specs.Rows.{row_of}
 use Rattle.text.proofs.BreakLaws.{breaks_first}
 use Rattle.print.specs.Rows.{step_text, refusal_text}
 use Rattle.turns.specs.Turns.{closed, breaks_in, steps_in, text_all}
-use Rattle.transcript.specs.Machine.{Held, Mach, short, row_in, next_phase, next_row, next_run, say_line, push, ended, step_m, say_m, run_m, say_all, at_row}
+use Rattle.transcript.specs.Machine.{answered, Held, Mach, short, row_in, next_phase, next_row, next_run, say_line, push, ended, step_m, say_m, run_m, say_all, at_row}
 use Rattle.transcript.specs.Rehearsal.{answer_text, run_after}
 use Rattle.transcript.proofs.HeldLaws.{holds, hold_push, row_lf}
 
@@ -69,7 +69,7 @@ say_append m [] k = refl
 say_append m (x ∷ l) k = rw (say_append (step_m m x) l k, append_assoc)
 
 lf_run : (h : Held) (n : ℕ) (run : Run) → run_m (rowing h n run) (10 ∷ []) ≡ at_row (n + 1) (run_after run (row_in (short h)))
-unfolding run_m step_m ended next_phase next_row next_run
+unfolding run_m step_m ended answered next_phase next_row next_run
 lf_run h n run = refl
 
 lf_say : (h : Held) (n : ℕ) (run : Run) → say_all (rowing h n run) (10 ∷ []) ≡ answer_text n run (row_in (short h))

@@ -6,12 +6,12 @@ use mathlib.Core.Path.{◌≡◌, refl}
 use lib.ListN.{length}
 use lib.Dec.{eqb, ltb}
 use borrow.Author.Tests.{eqb-false}
-use Rattle.transcript.specs.Names.{Err, None, Ok, Option, Phase, Planned, Row, Run, Some, Unplanned}
+use Rattle.transcript.specs.Names.{Err, None, Ok, Option, Phase, Planned, Row, Run, Some}
 use Rattle.run.specs.Start.{start_of}
 use Rattle.run.specs.Undamaged.{undamaged}
 use Rattle.run.proofs.UndamagedLaws.{step_undamaged, start_undamaged}
 use Rattle.text.specs.Ends.{breaks}
-use Rattle.transcript.specs.Machine.{Held, Line, Over, Mach, short, row_in, head_in, start_phase, plan_phase, plan_run, next_phase, next_row, next_run, push, ended, step_m, run_m, held_of, mach_of, fresh, held_breaks, Whole, most_line}
+use Rattle.transcript.specs.Machine.{answered, Held, Line, Over, Mach, short, row_in, head_in, start_phase, plan_phase, plan_run, next_phase, next_row, next_run, push, ended, step_m, run_m, held_of, mach_of, fresh, held_breaks, Whole, most_line}
 use Rattle.transcript.specs.Phases.{sound_in}
 use Rattle.transcript.specs.Rehearsal.{run_after}
 use Rattle.text.proofs.BreakLaws.{breaks_more}
@@ -19,8 +19,7 @@ use Rattle.text.proofs.BreakLaws.{breaks_more}
 -- ---- a row
 
 pub start_sound : (p : Planned) (run : Run) → undamaged run ≡ true → sound_in (start_phase p) run ≡ true
-start_sound (Err Unplanned.OutOfRange) run h = refl
-start_sound (Err Unplanned.TooSmall) run h = refl
+start_sound (Err w) run h = refl
 start_sound (Ok p) run h = h
 
 plan_sound : (x : Option Row) (run : Run) → sound_in (plan_phase x) (plan_run run x) ≡ true
@@ -60,7 +59,7 @@ unfolding breaks
 none_held = refl
 
 whole_byte : (m : Mach) (b : ℕ) → Whole m → Whole (step_m m b)
-unfolding step_m ended
+unfolding step_m ended answered
 whole_byte m b w = go (eqb b 10) refl
   where
     go : (t : Bool) → eqb b 10 ≡ t

@@ -1,7 +1,7 @@
 -- The rehearsal as a machine that is fed bytes and says bytes: its state, one byte, several, and the input's end. No clause is its
 -- own: it says what Rehearsal.antt says.
 use Rattle.std.specs.Prelude.{ℕ, ◌+◌, ◌≤◌, Bool, true, false, cond, List, [], ◌∷◌, ◌++◌, ◌≡◌, eqb, leb, ltb, length, take, replicate}
-use Rattle.transcript.specs.Names.{Err, None, Ok, Option, Phase, Planned, Rehearsal, Row, Run, Some, Unplanned}
+use Rattle.transcript.specs.Names.{Err, None, Ok, Option, Phase, Planned, Rehearsal, Row, Run, Some}
 use mathlib.Core.Path.{refl}
 use Rattle.run.specs.Start.{start_of}
 use Rattle.text.specs.Ends.{unended, breaks}
@@ -47,8 +47,7 @@ head_in (Line l) = is_header l
 head_in Over = false
 
 abbrev pub start_phase : Planned → Phase
-start_phase (Err Unplanned.OutOfRange) = Phase.Ended
-start_phase (Err Unplanned.TooSmall) = Phase.Ended
+start_phase (Err w) = Phase.Ended
 start_phase (Ok p) = Phase.Running
 
 abbrev pub plan_phase : Option Row → Phase
@@ -101,15 +100,9 @@ push Over b = Over
 unfoldable pub answered : Mach → Mach
 answered m = record { held = Line []; phase = next_phase m.phase m.held; row = next_row m.phase m.row; run = next_run m.phase m.run m.held }
 
--- the state after a row
+-- the state after a row that ends in LF
 unfoldable pub ended : Mach → Mach
-ended m =
-    record {
-      held = Line [];
-      phase = next_phase m.phase (short m.held);
-      row = next_row m.phase m.row;
-      run = next_run m.phase m.run (short m.held);
-    }
+ended m = answered (record m { held = short m.held })
 
 -- one byte
 unfoldable pub step_m : Mach → ℕ → Mach

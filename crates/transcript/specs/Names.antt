@@ -1,7 +1,6 @@
 -- The types that this crate speaks of, under one roof.
 pub use Rattle.std.specs.Prelude.{Option, Some, None, Ok, Err}
 pub use Rattle.plan.specs.Names.{Planned}
-pub use Rattle.plan.specs.declared.Unplanned.{Unplanned}
 pub use Rattle.types.specs.declared.answer.Refusal.{Refusal}
 pub use Rattle.types.specs.Names.{Answer}
 pub use Rattle.types.specs.declared.step.Step.{Step}

@@ -1,7 +1,7 @@
 -- The rehearsal, from all bytes of the input to all bytes of the output: clauses S16 and S17 of docs/SCOPE.md. A row is the list
 -- of its bytes.
 use Rattle.std.specs.Prelude.{ℕ, ◌+◌, cond, List, [], ◌∷◌, ◌++◌, eqb}
-use Rattle.transcript.specs.Names.{Err, None, Ok, Option, Planned, Row, Run, Some, Unplanned}
+use Rattle.transcript.specs.Names.{Err, None, Ok, Option, Planned, Row, Run, Some}
 use Rattle.run.specs.Start.{start_of}
 use Rattle.run.specs.Steps.{step_of}
 use Rattle.text.specs.Ends.{unended}
@@ -37,8 +37,7 @@ steps_text n run (l ∷ ls) = answer_text n run (row_of l) ++ steps_text (n + 1)
 
 -- S16.8: after a refused plan nothing follows
 abbrev pub after_plan : Planned → Run → List (List ℕ) → List ℕ
-after_plan (Err Unplanned.OutOfRange) run ls = []
-after_plan (Err Unplanned.TooSmall) run ls = []
+after_plan (Err w) run ls = []
 after_plan (Ok p) run ls = steps_text 2 run ls
 
 -- S16.8: the plan; a row of another form is answered 2, which is a refused plan
