@@ -10,7 +10,7 @@ use lib.Seq.{take_all, take-append_seam, length-take-le}
 use Rattle.std.proofs.lemmas.List.{take-append-drop}
 use borrow.Author.Tests.{eq-eqb, leb-true, leb-false}
 use Rattle.limits.specs.Limits.{most_cabinets}
-use Rattle.desk.specs.Names.{Cabinet, Err, Refusal, Run, Step, Stepped}
+use Rattle.desk.specs.Names.{Cabinet, Err, Local, Refusal, Run, Served, Step, Stepped}
 use Rattle.cabinet.specs.Cabinets.{fresh_cabinet}
 use Rattle.run.specs.Steps.{step_of}
 use Rattle.run.specs.Undamaged.{undamaged}
@@ -140,3 +140,10 @@ module _ (len : ℕ) (l : List Cabinet) (nine : length l ≡ most_cabinets) wher
   pub local_capped : (run : Run) (s : Step) → local_of run l (min len most_cabinets) s ≡ local_of run l len s
   unfolding local_of
   local_capped run s = rw (cap_take, cap_drop)
+
+-- what a step over the first records leaves, with the others behind
+pub local_says : (run : Run) (array : List Cabinet) (len : ℕ) (s : Step) (r : Served) (after : List Cabinet)
+    → r ≡ lent_of run (take len array) s → after ≡ table_of run (take len array) s
+    → ◌≡◌ {A = Local} (record { served = r; table = after ++ drop len array }) (local_of run array len s)
+unfolding local_of
+local_says run array len s r after p q = rw (p, q)

@@ -1,12 +1,14 @@
 // The desk's entrance: it lends its table of cabinet records, which stand for the run's own, and a step changes at most one of them.
 #![tactic(auto)]
 
+mod array;
 mod entrance;
 
 ghost use Rattle.std.specs.Prelude.{◌≡◌};
 ghost use Rattle.desk.specs.Names.{Err};
 ghost use Rattle.desk.specs.Desk.{lent_number};
 
+pub use array::step_local;
 pub use entrance::{give_back, lend, step_lent};
 use types::Answer;
 

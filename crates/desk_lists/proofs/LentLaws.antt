@@ -1,12 +1,14 @@
--- A list over a lent table is the list of the run that has these records: step by step, and each way through the entrance. Assumes nothing.
-use Prim.Native.Nat.{ℕ, ◌-◌, ◌≤◌, ◌<◌}
+-- A list over a lent table is the list of the run that has these records: step by step, and each way through the entrance; the first of the
+-- steps at hand; a table that is part of an array. Assumes nothing.
+use Prim.Native.Nat.{ℕ, min, ◌-◌, ◌≤◌, ◌<◌}
 use mathlib.Core.Bool.{Bool, true, false, cond}
 use mathlib.Core.List.{List, [], ◌∷◌, ◌++◌}
 use mathlib.Core.Path.{◌≡◌, refl, sym, ap, ap₂, ◌∙◌}
 use native.Mathlib.Omega.{arith}
 use lib.Dec.{eqb, leb}
-use lib.ListN.{length, take, replicate}
-use lib.Seq.{take-append_seam}
+use lib.ListN.{length, take, drop, replicate}
+use lib.Seq.{take_all, take-append_seam}
+use Rattle.std.proofs.lemmas.List.{length-take}
 use borrow.Author.Tests.{leb-true, leb-false}
 use Rattle.limits.specs.Limits.{most_cabinets}
 use Rattle.cabinet.specs.Cabinets.{fresh_cabinet}
@@ -14,11 +16,11 @@ use Rattle.run.specs.Lists.{run_all}
 use Rattle.run.specs.Undamaged.{undamaged}
 use Rattle.desk.specs.Desk.{lent_number, with_cabinets, with_records, nine_of, given_back, lent_of, table_of}
 use Rattle.desk.proofs.DeskLaws.{as_step, own_kept, table_length}
-use Rattle.desk.proofs.LendLaws.{too_long, view_is, back_few, back_same, lent_wrong, table_wrong}
+use Rattle.desk.proofs.LendLaws.{too_long, view_is, back_few, back_same, lent_wrong, table_wrong, cap_take, cap_drop}
 use Rattle.lists.specs.Whole.{fits, numbers_of, in_front, taken_of, untaken_of, list_of}
-use Rattle.lists.proofs.ListLaws.{list_untaken, list_taken, runs_damaged, numbers_damaged}
+use Rattle.lists.proofs.ListLaws.{fits_made, fits_says, list_untaken, list_taken, runs_damaged, numbers_damaged}
 use Rattle.desk_lists.specs.Names.{Cabinet, Listed, Ok, Run, Step}
-use Rattle.desk_lists.specs.Lent.{lent_run, lent_table, lent_numbers, lent_taken_of, lent_untaken_of, lent_list_of}
+use Rattle.desk_lists.specs.Lent.{lent_run, lent_table, lent_numbers, lent_taken_of, lent_untaken_of, lent_list_of, lent_first_of, packed, local_list_of, local_first_of}
 use Rattle.desk_lists.proofs.BehindLaws.{behind_step, same_step}
 
 -- ---- a table of another length
@@ -151,3 +153,48 @@ module _ (run : Run) (ys : List Cabinet) (steps : List Step) (table : List ℕ) 
       go false f =
           let s = all_same run ys same [] in
           ap puts (e ∙ sym (list_untaken (view_of run ys) steps table f)) ∙ rw (s.its_run, s.its_records) (lent_untaken f)
+
+-- ---- the first of the steps at hand
+
+module _ (run : Run) (ys : List Cabinet) (steps : List Step) (count : ℕ) (table : List ℕ) where
+  pub lent_first_untaken : fits count (length table) ≡ false → lent_untaken_of run ys table ≡ lent_first_of run ys steps count table
+  unfolding lent_first_of
+  lent_first_untaken e = rw e
+
+  -- what stands behind them is not looked at
+  pub lent_first_taken : fits count (length table) ≡ true → lent_list_of run ys (take count steps) table ≡ lent_first_of run ys steps count table
+  unfolding lent_first_of
+  lent_first_taken e =
+      let f = fits_says count (length table) e in
+      let few : length (take count steps) ≤ count = omega (arith, length-take count steps) in
+      sym (lent_taken run ys (take count steps) table (fits_made (length (take count steps)) (length table) (omega arith) (omega arith))) ∙ rw e
+
+  -- the list of them, where so many fit: a count that doesn't is refused, whatever the steps
+  pub lent_first_cut : lent_first_of run ys steps count table
+      ≡ cond (fits count (length table)) (lent_list_of run ys (take count steps) table) (lent_untaken_of run ys table)
+  lent_first_cut = go _ refl
+    where
+      go : (t : Bool) → fits count (length table) ≡ t
+          → lent_first_of run ys steps count table ≡ cond t (lent_list_of run ys (take count steps) table) (lent_untaken_of run ys table)
+      go true e = sym (lent_first_taken e)
+      go false e = sym (lent_first_untaken e)
+
+-- all of them are the list
+pub lent_first_whole : (run : Run) (ys : List Cabinet) (steps : List Step) (table : List ℕ)
+    → lent_first_of run ys steps (length steps) table ≡ lent_list_of run ys steps table
+unfolding lent_first_of lent_list_of
+lent_first_whole run ys steps table = rw (take_all (length steps) steps (omega arith))
+
+-- ---- out of an array
+
+module _ (run : Run) (array : List Cabinet) (len : ℕ) (steps : List Step) (table : List ℕ) where
+  -- an array of nine lends what it has, where more is asked for
+  pub local_first_capped : (count : ℕ) → length array ≡ most_cabinets
+      → packed (drop (min len most_cabinets) array) (lent_first_of run (take (min len most_cabinets) array) steps count table)
+      ≡ local_first_of run array len steps count table
+  unfolding local_first_of
+  local_first_capped count nine = rw (cap_take len array nine, cap_drop len array nine)
+
+  pub local_first_whole : local_first_of run array len steps (length steps) table ≡ local_list_of run array len steps table
+  unfolding local_first_of local_list_of
+  local_first_whole = ap (packed (drop len array)) (lent_first_whole run (take len array) steps table)

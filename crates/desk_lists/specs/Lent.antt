@@ -37,6 +37,11 @@ unfoldable pub lent_list_of : Run → List Cabinet → List Step → List ℕ �
 lent_list_of run records steps table =
     cond (fits (length steps) (length table)) (lent_taken_of run records steps table) (lent_untaken_of run records table)
 
+-- S12.16, S21.1, S21.6: of the first `count` of the steps at hand
+unfoldable pub lent_first_of : Run → List Cabinet → List Step → ℕ → List ℕ → Listed × List Cabinet × List ℕ
+lent_first_of run records steps count table =
+    cond (fits count (length table)) (lent_taken_of run records (take count steps) table) (lent_untaken_of run records table)
+
 -- S21.6: the first `len` records of an array are lent, and the others stay as they are
 abbrev pub packed : List Cabinet → Listed × List Cabinet × List ℕ → Local × List ℕ
 packed behind z = (record { listed = z.0; table = z.1 ++ behind }, z.2)
@@ -44,3 +49,7 @@ packed behind z = (record { listed = z.0; table = z.1 ++ behind }, z.2)
 -- S21.6: out of an array
 unfoldable pub local_list_of : Run → List Cabinet → ℕ → List Step → List ℕ → Local × List ℕ
 local_list_of run array len steps table = packed (drop len array) (lent_list_of run (take len array) steps table)
+
+-- S21.1, S21.6: the same out of an array
+unfoldable pub local_first_of : Run → List Cabinet → ℕ → List Step → ℕ → List ℕ → Local × List ℕ
+local_first_of run array len steps count table = packed (drop len array) (lent_first_of run (take len array) steps count table)

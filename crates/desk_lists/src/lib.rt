@@ -1,9 +1,12 @@
 // A list of steps in one go over the desk's lent table of cabinet records, each step answered as the lent entrance answers it.
 #![tactic(auto)]
 
-ghost use Rattle.std.specs.Prelude.{◌≡◌};
-ghost use Rattle.desk_lists.specs.Lent.{lent_list_of};
+mod array;
 
+ghost use Rattle.std.specs.Prelude.{◌≡◌};
+ghost use Rattle.desk_lists.specs.Lent.{lent_first_of, lent_list_of};
+
+pub use array::list_local;
 use cabinet::Cabinet;
 use desk::{WrongLength, give_back, lend};
 use lists::{NoRoom, Whole, fits, take_list};
@@ -26,4 +29,21 @@ pub fn list_lent(run: &mut Run, table: &mut [Cabinet], steps: &[Step], answers: 
     let whole = take_list(run, steps, answers);
     give_back(run, table, &own);
     whole
+}
+
+// S21.1. The first `count` of the steps at hand; where fewer are at hand, all of them.
+#[tactic(auto, using(crate::proofs::LentLaws::lent_first_untaken), unfolding(crate::specs::Lent::lent_untaken_of))]
+pub fn lent_first(
+    run: &mut Run,
+    table: &mut [Cabinet],
+    steps: &[Step],
+    count: usize,
+    answers: &mut [u8],
+) -> Whole
+    ensures { (record { whole = result; run = run.new }, table.new, answers.new) ≡ lent_first_of run.old table.old steps.now count answers.old }
+{
+    if !fits(count, answers.len()) {
+        return Err(NoRoom);
+    }
+    list_lent(run, table, &steps[..count.min(steps.len())], answers)
 }

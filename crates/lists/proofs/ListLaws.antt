@@ -1,12 +1,13 @@
 -- Laws of a list of steps in one go: what stands in front of the table, one step more, a damaged run, a list cut in two. Assumes nothing.
 use Prim.Native.Nat.{ℕ, suc, ◌+◌, ◌<◌, ◌≤◌}
-use mathlib.Core.Bool.{true, false}
+use mathlib.Core.Bool.{Bool, true, false, cond}
 use mathlib.Core.List.{List, [], ◌∷◌, ◌++◌}
 use mathlib.Core.Path.{◌≡◌, refl, sym, ap, ap₂, ◌∙◌}
 use native.Mathlib.Numerals.{add-one}
 use native.Mathlib.Omega.{arith}
 use lib.ListN.{length, get_or, set, take, drop, replicate, length-append, length-set, length-replicate}
 use lib.Seq.{take-suc, take_all, length-take-le}
+use Rattle.std.proofs.lemmas.List.{length-take}
 use lib.Dec.{leb}
 use borrow.Author.Tests.{le-leb, leb-true}
 use Rattle.plan.proofs.RuleLaws.{both}
@@ -18,7 +19,7 @@ use Rattle.run.proofs.FrameLaws.{step_damaged}
 use Rattle.run.proofs.ListLaws.{run_append, run_more}
 use Rattle.run.proofs.UndamagedLaws.{step_undamaged}
 use Rattle.lists.specs.Names.{Listed, Ok, Run, Step, Stepped}
-use Rattle.lists.specs.Whole.{most_listed, fits, numbers_of, in_front, taken_of, untaken_of, list_of}
+use Rattle.lists.specs.Whole.{most_listed, fits, numbers_of, in_front, taken_of, untaken_of, list_of, first_of}
 
 -- ---- what fits
 
@@ -150,6 +151,35 @@ module _ (run : Run) (steps : List Step) (table : List ℕ) where
   pub list_taken : fits (length steps) (length table) ≡ true → taken_of run steps table ≡ list_of run steps table
   unfolding list_of
   list_taken e = rw e
+
+-- ---- the first of the steps at hand
+
+module _ (run : Run) (steps : List Step) (count : ℕ) (table : List ℕ) where
+  pub first_untaken : fits count (length table) ≡ false → untaken_of run table ≡ first_of run steps count table
+  unfolding first_of
+  first_untaken e = rw e
+
+  -- what stands behind them is not looked at
+  pub first_taken : fits count (length table) ≡ true → list_of run (take count steps) table ≡ first_of run steps count table
+  unfolding first_of
+  first_taken e =
+      let f = fits_says count (length table) e in
+      let few : length (take count steps) ≤ count = omega (arith, length-take count steps) in
+      sym (list_taken run (take count steps) table (fits_made (length (take count steps)) (length table) (omega arith) (omega arith))) ∙ rw e
+
+  -- the list of them, where so many fit: a count that doesn't is refused, whatever the steps
+  pub first_cut : first_of run steps count table ≡ cond (fits count (length table)) (list_of run (take count steps) table) (untaken_of run table)
+  first_cut = go _ refl
+    where
+      go : (t : Bool) → fits count (length table) ≡ t
+          → first_of run steps count table ≡ cond t (list_of run (take count steps) table) (untaken_of run table)
+      go true e = sym (first_taken e)
+      go false e = sym (first_untaken e)
+
+-- all of them are the list
+pub first_whole : (run : Run) (steps : List Step) (table : List ℕ) → first_of run steps (length steps) table ≡ list_of run steps table
+unfolding first_of list_of
+first_whole run steps table = rw (take_all (length steps) steps (omega arith))
 
 -- ---- a list cut in two
 

@@ -1,5 +1,5 @@
 -- A list of steps in one go: clauses S12.16 and S21.1 to S21.5 of docs/SCOPE.md.
-use Rattle.std.specs.Prelude.{ℕ, Bool, cond, ◌&&◌, List, [], ◌∷◌, ◌++◌, map, leb, length, drop}
+use Rattle.std.specs.Prelude.{ℕ, Bool, cond, ◌&&◌, List, [], ◌∷◌, ◌++◌, map, leb, length, take, drop}
 use Rattle.types.specs.Answers.{answer_number}
 use Rattle.run.specs.Lists.{run_all}
 use Rattle.run.specs.Steps.{step_of}
@@ -42,3 +42,7 @@ untaken_of run table = (record { whole = Err (record {}); run = run }, table)
 -- S21.1, S21.2: of a list
 unfoldable pub list_of : Run → List Step → List ℕ → Listed × List ℕ
 list_of run steps table = cond (fits (length steps) (length table)) (taken_of run steps table) (untaken_of run table)
+
+-- S21.1, S21.2: of the first `count` of the steps at hand
+unfoldable pub first_of : Run → List Step → ℕ → List ℕ → Listed × List ℕ
+first_of run steps count table = cond (fits count (length table)) (taken_of run (take count steps) table) (untaken_of run table)
