@@ -1,7 +1,8 @@
 -- Each public contract decides, and it asks nothing of its caller: any two outcomes that it allows for the same run, table and step agree on the
--- answer, on every part of the next run and on every record of the table at exit, and what it requires always holds (`emp`). The entrance
--- is cited from where the checker reads its contract: `step_lent_says` holds the contract that the checker reads in src/ to the
--- fact stated here, and a weaker contract is refused there; `step_lent_any` refuses one that asks for something. Assumes nothing.
+-- answer, on every part of the next run and on every record of the table at exit, and what it requires always holds (`emp`). Both entrances
+-- are cited from where the checker reads their contracts: `step_lent_says` and `step_local_says` hold the contract that the checker reads in src/ to the
+-- fact stated here, and a weaker contract is refused there; `step_lent_any` and `step_local_any` refuse one that asks for something.
+-- Assumes nothing.
 use Prim.Native.Nat.{ℕ, min}
 use mathlib.Core.Path.{◌≡◌, refl, sym, ◌∙◌}
 use lib.ListN.{length, take, drop}
@@ -15,8 +16,9 @@ use contract.Monad.{Fun, fact}
 use Rattle.limits.specs.Limits.{most_cabinets}
 use Rattle.desk.specs.Names.{Cabinet, Lent, Local, Run, Served, Step}
 use Rattle.desk.specs.Desk.{lent_of, table_of, local_of}
+use Rattle.desk.specs.contracts.array.step_local as step-local
 use Rattle.desk.specs.contracts.entrance.step_lent as step-lent
-use Rattle.desk.proofs.LendLaws.{local_capped}
+use Rattle.desk.proofs.LendLaws.{local_capped, local_says}
 use Rattle.desk.proofs.entrance.lend.Reads as lend
 use Rattle.desk.proofs.entrance.give_back.Reads as give-back
 use Rattle.desk.proofs.U8FromWrongLength.from.Reads as wrong-length-number
@@ -39,20 +41,29 @@ pub step_lent_any : {M : Type 1} {𝓤 : Ura M} (𝓛 : Logic 𝓤) (at_mem : Me
     → (step-lent.clauses 𝓛 at_mem run κs a).requires g ≡ emp 𝓤
 step_lent_any 𝓛 at_mem run κs a g = refl
 
--- the first `len` records of an array are lent: the call at that part of it gives `local_of`, with the rest of the array as it was
-pub step_local_says : (run : Run) (array : List Cabinet) (len : ℕ) (s : Step) (r : Served) (after : List Cabinet)
-    → LentPost run (take len array) s r after → ◌≡◌ {A = Local} (record { served = r; table = after ++ drop len array }) (local_of run array len s)
-unfolding local_of
-step_local_says run array len s r after p = rw (p.0, p.1)
+pub step_local_says : {M : Type 1} {𝓤 : Ura M} (𝓛 : Logic 𝓤) (at_mem : Memory → SProp 𝓤) (run : Routine → Fun 𝓤) (κs : _) (a : _) (g : _)
+    (r : Lent) (e : _)
+    → (step-local.clauses 𝓛 at_mem run κs a).ensures g r e ≡ fact 𝓤
+    (◌≡◌ {A = Local} (record { served = record { answer = r; run = e.0.now }; table = e.1.0.now }) (local_of a.0.now a.1.0.now a.1.1.0 a.1.1.1.0))
+step_local_says 𝓛 at_mem run κs a g r e = refl
 
-pub step_local_decides : (run : Run) (array : List Cabinet) (len : ℕ) (s : Step) (r r' : Local)
-    → r ≡ local_of run array len s → r' ≡ local_of run array len s → r ≡ r'
-step_local_decides run array len s r r' p q = p ∙ sym q
+pub step_local_decides : (run : Run) (table : List Cabinet) (len : ℕ) (s : Step) (r r' : Local)
+    → r ≡ local_of run table len s → r' ≡ local_of run table len s → r ≡ r'
+step_local_decides run table len s r r' p q = p ∙ sym q
+
+pub step_local_any : {M : Type 1} {𝓤 : Ura M} (𝓛 : Logic 𝓤) (at_mem : Memory → SProp 𝓤) (run : Routine → Fun 𝓤) (κs : _) (a : _) (g : _)
+    → (step-local.clauses 𝓛 at_mem run κs a).requires g ≡ emp 𝓤
+step_local_any 𝓛 at_mem run κs a g = refl
+
+-- the entrance over a lent table at the first `len` records of an array gives `local_of` too, with the rest of the array as it was
+pub lent_local_says : (run : Run) (array : List Cabinet) (len : ℕ) (s : Step) (r : Served) (after : List Cabinet)
+    → LentPost run (take len array) s r after → ◌≡◌ {A = Local} (record { served = r; table = after ++ drop len array }) (local_of run array len s)
+lent_local_says run array len s r after p = local_says run array len s r after p.0 p.1
 
 -- of an array of nine no more than nine are lent
-pub step_local_capped : (run : Run) (array : List Cabinet) (len : ℕ) (s : Step) → length array ≡ most_cabinets
+pub lent_local_capped : (run : Run) (array : List Cabinet) (len : ℕ) (s : Step) → length array ≡ most_cabinets
     → local_of run array (min len most_cabinets) s ≡ local_of run array len s
-step_local_capped run array len s nine = local_capped len array nine run s
+lent_local_capped run array len s nine = local_capped len array nine run s
 
 -- ---- what a list over a lent table uses too
 

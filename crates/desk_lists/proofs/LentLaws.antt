@@ -19,7 +19,7 @@ use Rattle.desk.proofs.DeskLaws.{as_step, own_kept, table_length}
 use Rattle.desk.proofs.LendLaws.{too_long, view_is, back_few, back_same, lent_wrong, table_wrong, cap_take, cap_drop}
 use Rattle.lists.specs.Whole.{fits, numbers_of, in_front, taken_of, untaken_of, list_of}
 use Rattle.lists.proofs.ListLaws.{fits_made, fits_says, list_untaken, list_taken, runs_damaged, numbers_damaged}
-use Rattle.desk_lists.specs.Names.{Cabinet, Listed, Ok, Run, Step}
+use Rattle.desk_lists.specs.Names.{Cabinet, Listed, Local, Ok, Run, Step}
 use Rattle.desk_lists.specs.Lent.{lent_run, lent_table, lent_numbers, lent_taken_of, lent_untaken_of, lent_list_of, lent_first_of, packed, local_list_of, local_first_of}
 use Rattle.desk_lists.proofs.BehindLaws.{behind_step, same_step}
 
@@ -187,14 +187,21 @@ lent_first_whole run ys steps table = rw (take_all (length steps) steps (omega a
 
 -- ---- out of an array
 
-module _ (run : Run) (array : List Cabinet) (len : ℕ) (steps : List Step) (table : List ℕ) where
-  -- an array of nine lends what it has, where more is asked for
-  pub local_first_capped : (count : ℕ) → length array ≡ most_cabinets
-      → packed (drop (min len most_cabinets) array) (lent_first_of run (take (min len most_cabinets) array) steps count table)
-      ≡ local_first_of run array len steps count table
+module _ (run : Run) (array : List Cabinet) (len : ℕ) (steps : List Step) where
+  -- what a list over the first records leaves, with the others behind
+  pub local_first_says : (count : ℕ) (table : List ℕ) (r : Listed) (after : List Cabinet) (said : List ℕ)
+      → (r, after, said) ≡ lent_first_of run (take len array) steps count table
+      → ◌≡◌ {A = Local × List ℕ} (record { listed = r; table = after ++ drop len array }, said) (local_first_of run array len steps count table)
   unfolding local_first_of
-  local_first_capped count nine = rw (cap_take len array nine, cap_drop len array nine)
+  local_first_says count table r after said p = ap (packed (drop len array)) p
 
-  pub local_first_whole : local_first_of run array len steps (length steps) table ≡ local_list_of run array len steps table
+  -- an array of nine lends what it has, where more is asked for
+  pub local_first_capped : (count : ℕ) (table : List ℕ) → length array ≡ most_cabinets
+      → local_first_of run array (min len most_cabinets) steps count table ≡ local_first_of run array len steps count table
+  unfolding local_first_of
+  local_first_capped count table nine = rw (cap_take len array nine, cap_drop len array nine)
+
+  -- all of the steps are the list
+  pub local_first_whole : (table : List ℕ) → local_first_of run array len steps (length steps) table ≡ local_list_of run array len steps table
   unfolding local_first_of local_list_of
-  local_first_whole = ap (packed (drop len array)) (lent_first_whole run (take len array) steps table)
+  local_first_whole table = ap (packed (drop len array)) (lent_first_whole run (take len array) steps table)

@@ -8,6 +8,7 @@ use mathlib.Core.Path.{◌≡◌, sym, ap, ◌∙◌}
 use Rattle.lists.specs.Names.{Listed, Whole}
 use Rattle.lists.proofs.fits.Reads as fits
 use Rattle.lists.proofs.take_list.Reads as take-list
+use Rattle.lists.proofs.take_first.Reads as take-first
 use Rattle.lists.proofs.U8FromNoRoom.from.Reads as no-room-number
 
 pub take_list_decides : (κs : _) (a : _) (r r' : Whole) (s s' : _) → take-list.Post κs a r s → take-list.Post κs a r' s'
@@ -18,6 +19,15 @@ take_list_decides κs a r r' s s' p q =
 
 pub take_list_any : (κs : _) (a : _) → take-list.Pre κs a
 take_list_any κs a = tt
+
+pub take_first_decides : (κs : _) (a : _) (r r' : Whole) (s s' : _) → take-first.Post κs a r s → take-first.Post κs a r' s'
+    → (r ≡ r') × (s.0.now ≡ s'.0.now) × (s.1.1.1.0.now ≡ s'.1.1.1.0.now)
+take_first_decides κs a r r' s s' p q =
+    let e = p ∙ sym q in
+    (ap (λ (z : Listed × List ℕ). z.0.whole) e, ap (λ (z : Listed × List ℕ). z.0.run) e, ap (λ (z : Listed × List ℕ). z.1) e)
+
+pub take_first_any : (κs : _) (a : _) → take-first.Pre κs a
+take_first_any κs a = tt
 
 pub fits_decides : (κs : _) (a : _) (x y : Bool) (s s' : _) → fits.Post κs a x s → fits.Post κs a y s' → x ≡ y
 fits_decides κs a x y s s' p q = p ∙ sym q
