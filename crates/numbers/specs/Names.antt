@@ -21,3 +21,4 @@ pub use Rattle.types.specs.Decisions.{Deed, Change, Decision}
 pub use Rattle.client.specs.declared.hear.Told.{Told}
 pub use Rattle.run.specs.declared.Run.{Run}
 pub use Rattle.desk.specs.Names.{Lent, Served}
+pub use Rattle.lists.specs.Names.{Listed}
