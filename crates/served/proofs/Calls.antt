@@ -4,30 +4,34 @@ use Prim.Native.Nat.{ℕ}
 use mathlib.Core.Bool.{Bool, true, false, cond}
 use mathlib.Core.List.{List, [], ◌∷◌, ◌++◌}
 use mathlib.Core.Path.{◌≡◌, refl, sym, ap, ap₂, subst, ◌∙◌}
-use lib.ListN.{length}
-use Rattle.served.specs.Names.{Cabinet, Run, Step}
+use native.Mathlib.Omega.{arith}
+use lib.ListN.{length, take}
+use lib.Seq.{take_all}
+use Rattle.served.specs.Names.{Cabinet, Listed, Run, Step}
 use Rattle.run.specs.Lists.{run_all}
 use Rattle.run.specs.Start.{start_of}
 use Rattle.run.specs.Steps.{step_of}
 use Rattle.desk.specs.Desk.{lent_of, table_of}
-use Rattle.lists.specs.Whole.{fits, taken_of, untaken_of, list_of}
-use Rattle.desk_lists.specs.Lent.{lent_run, lent_table, lent_taken_of, lent_untaken_of, lent_list_of}
+use Rattle.lists.specs.Whole.{fits, taken_of, untaken_of, list_of, first_of}
+use Rattle.lists.proofs.ListLaws.{first_whole}
+use Rattle.desk_lists.specs.Lent.{lent_run, lent_table, lent_taken_of, lent_untaken_of, lent_list_of, lent_first_of}
+use Rattle.desk_lists.proofs.LentLaws.{lent_first_whole}
 use Rattle.promise.specs.Events.{Event, event, events}
 use Rattle.promise.specs.Promise.{Promise}
 use Rattle.promise.proofs.Kept.{promise_always}
 use Rattle.served.specs.Served.{lent_event, lent_events, fresh_table}
-use Rattle.served.specs.Calls.{Call, taken_by, taken_by_all, run_by, call_events, lent_run_by, lent_table_by, lent_call_events}
+use Rattle.served.specs.Calls.{Call, whole_call, taken_by, taken_by_all, run_by, call_events, lent_run_by, lent_table_by, lent_call_events}
 use Rattle.served.proofs.Served.{lent_promise}
 
 -- ---- over the run's own records
 
 -- a call leaves the run that the steps which it takes leave
 call_run : (run : Run) (c : Call) → run_by run c ≡ run_all run (taken_by c)
-unfolding taken_by list_of taken_of untaken_of run_all
-call_run run c = go (fits (length c.steps) (length c.answers))
+unfolding taken_by first_of taken_of untaken_of run_all
+call_run run c = go (fits c.count (length c.answers))
   where
-    go : (t : Bool) → (cond t (taken_of run c.steps c.answers) (untaken_of run c.answers)).0.run
-        ≡ run_all run (cond t c.steps [])
+    go : (t : Bool) → (cond t (taken_of run (take c.count c.steps) c.answers) (untaken_of run c.answers)).0.run
+        ≡ run_all run (cond t (take c.count c.steps) [])
     go true = refl
     go false = refl
 
@@ -51,14 +55,14 @@ call_promise n k r b cs =
 
 lent_call : (run : Run) (records : List Cabinet) (c : Call)
     → (lent_run_by run records c ≡ lent_run run records (taken_by c)) × (lent_table_by run records c ≡ lent_table run records (taken_by c))
-unfolding taken_by lent_list_of lent_taken_of lent_untaken_of
-lent_call run records c = go (fits (length c.steps) (length c.answers))
+unfolding taken_by lent_first_of lent_taken_of lent_untaken_of
+lent_call run records c = go (fits c.count (length c.answers))
   where
     go : (t : Bool)
-        → ((cond t (lent_taken_of run records c.steps c.answers) (lent_untaken_of run records c.answers)).0.run
-        ≡ lent_run run records (cond t c.steps []))
-        × ((cond t (lent_taken_of run records c.steps c.answers) (lent_untaken_of run records c.answers)).1
-        ≡ lent_table run records (cond t c.steps []))
+        → ((cond t (lent_taken_of run records (take c.count c.steps) c.answers) (lent_untaken_of run records c.answers)).0.run
+        ≡ lent_run run records (cond t (take c.count c.steps) []))
+        × ((cond t (lent_taken_of run records (take c.count c.steps) c.answers) (lent_untaken_of run records c.answers)).1
+        ≡ lent_table run records (cond t (take c.count c.steps) []))
     go true = (refl, refl)
     go false = (refl, refl)
 
@@ -83,3 +87,20 @@ pub lent_call_promise : (n k r b : ℕ) (cs : List Call)
 lent_call_promise n k r b cs =
     let run : Run = (start_of n k r b).run in
     subst (λ (l : List Event). Promise l) (sym (lent_call_events_are run (fresh_table run) cs)) (lent_promise n k r b (taken_by_all cs))
+
+-- ---- the call of a whole list takes its steps, and does what the list does
+
+module _ (steps : List Step) (answers : List ℕ) where
+  pub taken_by_whole : taken_by (whole_call steps answers) ≡ cond (fits (length steps) (length answers)) steps []
+  unfolding taken_by
+  taken_by_whole = ap (λ (ss : List Step). cond (fits (length steps) (length answers)) ss []) (take_all (length steps) steps (omega arith))
+
+  pub run_by_whole : (run : Run) → run_by run (whole_call steps answers) ≡ (list_of run steps answers).0.run
+  run_by_whole run = ap (λ (z : Listed × List ℕ). z.0.run) (first_whole run steps answers)
+
+  module _ (run : Run) (records : List Cabinet) where
+    pub lent_run_by_whole : lent_run_by run records (whole_call steps answers) ≡ (lent_list_of run records steps answers).0.run
+    lent_run_by_whole = ap (λ (z : Listed × List Cabinet × List ℕ). z.0.run) (lent_first_whole run records steps answers)
+
+    pub lent_table_by_whole : lent_table_by run records (whole_call steps answers) ≡ (lent_list_of run records steps answers).1
+    lent_table_by_whole = ap (λ (z : Listed × List Cabinet × List ℕ). z.1) (lent_first_whole run records steps answers)

@@ -12,3 +12,4 @@ pub use Rattle.types.specs.declared.step.Asked.{Asked}
 pub use Rattle.run.specs.declared.Run.{Run}
 pub use Rattle.run.specs.Names.{Stepped}
 pub use Rattle.desk.specs.Names.{Lent}
+pub use Rattle.lists.specs.Names.{Listed}
