@@ -88,7 +88,7 @@ module _ (s : List ℕ) (e : begins s (word_open ++ (44 ∷ [])) ≡ true) where
   open_more : length (first s) < length s
   open_more = more_yes s open_both.1
 
-  open_fits : 5 ≤ length s
+  pub open_fits : 5 ≤ length s
   open_fits = omega (arith, ap length open_first, open_more)
 
   pub reading_open : minutes_in (split (from s 5)) ≡ reading_in (split s)
