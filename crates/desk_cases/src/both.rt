@@ -1,6 +1,6 @@
 // The two entrances side by side: each step is taken by a run on its own records and by one over a lent table, and all that comes of it is compared.
 use cabinet::Cabinet;
-use desk::step_lent;
+use desk::step_local;
 use limits::MOST_CABINETS;
 use run::Run;
 use types::Step;
@@ -43,10 +43,9 @@ impl Both {
     }
 
     pub fn step(&mut self, s: Step) -> Compared {
-        let n = MOST_CABINETS.min(self.first.plan.n as usize);
+        let n = self.first.plan.n as usize;
         let answer = self.first.take(s);
-        let table = &mut self.table[..];
-        let lent = step_lent(&mut self.second, &mut table[..n], s);
+        let lent = step_local(&mut self.second, &mut self.table, n, s);
         Compared {
             accepted: answer.is_ok(),
             same: lent == Ok(answer) && self.agree(),

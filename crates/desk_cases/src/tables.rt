@@ -1,7 +1,7 @@
 // Tables of a wrong length, and damaged records: lent, the run's own, and past those lent.
 use super::show;
 use cabinet::Cabinet;
-use desk::step_lent;
+use desk::step_local;
 use limits::MOST_CABINETS;
 use run::Run;
 use std::io;
@@ -17,11 +17,7 @@ fn answered(
 ) -> io::Result<()> {
     let mut after = *run;
     let mut left = *table;
-    let lent = step_lent(
-        &mut after,
-        &mut left[..len.min(MOST_CABINETS)],
-        Step::Stop(1),
-    );
+    let lent = step_local(&mut after, &mut left, len, Step::Stop(1));
     let number = lent.map_or_else(|why| u8::from(why), |answer| answer_number(answer));
     show::table(rt, number, word, after == *run && left == *table)
 }

@@ -9,7 +9,7 @@ use lists::Whole;
 use run::Run;
 use types::Step;
 
-// S21.1, S21.6. The first `len` records are lent, all nine where more are asked for, and the others stay as they are.
+// S20.9, S21.1, S21.6. The first `len` records are lent, all nine where more are asked for, and the others stay as they are.
 pub fn list_local(
     run: &mut Run,
     table: &mut [Cabinet; MOST_CABINETS],

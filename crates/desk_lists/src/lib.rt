@@ -31,7 +31,7 @@ pub fn list_lent(run: &mut Run, table: &mut [Cabinet], steps: &[Step], answers: 
     whole
 }
 
-// S21.1. The first `count` of the steps at hand; where fewer are at hand, all of them.
+// S20.9, S21.1. The first `count` of the steps at hand; where fewer are at hand, all of them.
 #[tactic(auto, using(crate::proofs::LentLaws::lent_first_untaken), unfolding(crate::specs::Lent::lent_untaken_of))]
 pub fn lent_first(
     run: &mut Run,

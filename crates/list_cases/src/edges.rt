@@ -2,7 +2,7 @@
 ghost use Rattle.std.specs.Prelude.{◌≤◌};
 ghost use Rattle.list_cases.specs.Sizes.{most_places, most_rows};
 
-use super::full::{begun, full_list, refused};
+use super::full::{at_hand, begun, full_list, refused};
 use super::told::{Desk, PLACES, Told};
 use super::{calls, damage, show};
 use limits::MOST_CABINETS;
@@ -20,7 +20,8 @@ const NOTHING: &str = "nothing changed, all marks kept";
 
 const AS_SINGLY: &str = "as singly, marks behind kept";
 
-// The first steps of the full list, some places for their answers, and the first records of the desk, under a name.
+// The first steps of the full list, some places for their answers, and the first records of the desk, under a name. Each call is made with
+// these steps alone, and with a count of them where 256 are at hand; both must come to the same.
 #[derive(Clone, Copy)]
 struct Edge<'a> {
     name: &'a str,
@@ -34,15 +35,17 @@ struct Edge<'a> {
 impl Edge<'_> {
     fn by_run(&self, rt: &impl Print, want: &Told, checked: &str) -> io::Result<()> {
         let told = calls::by_run(self.desk, &full_list()[..self.count], self.places);
+        let first = calls::first_by_run(self.desk, &at_hand(), self.count, self.places);
         show::asked(rt, self.name, self.count, self.places)?;
-        show::came(rt, told.number, told == *want, checked)
+        show::came(rt, told.number, told == *want && first == told, checked)
     }
 
     fn lent(&self, rt: &impl Print, want: &Told, checked: &str) -> io::Result<()> {
         let told = calls::lent(self.desk, self.len, &full_list()[..self.count], self.places);
+        let first = calls::first_lent(self.desk, self.len, &at_hand(), self.count, self.places);
         show::asked(rt, self.name, self.count, self.places)?;
         show::records(rt, self.len)?;
-        show::came(rt, told.number, told == *want, checked)
+        show::came(rt, told.number, told == *want && first == told, checked)
     }
 
     fn untaken(&self, rt: &impl Print, number: u8) -> io::Result<()> {

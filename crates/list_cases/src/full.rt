@@ -29,8 +29,17 @@ const ROUND: [Step; 16] = [
     Step::Other,
 ];
 
+fn row(i: usize) -> Step {
+    ROUND[i % ROUND.len()]
+}
+
 pub fn full_list() -> [Step; ROWS] {
-    array::from_fn(|i| ROUND[i % ROUND.len()])
+    array::from_fn(|i| row(i))
+}
+
+// The first of them, as many as a list may have: with these at hand a count may ask for more.
+pub fn at_hand() -> [Step; MOST_LISTED] {
+    array::from_fn(|i| row(i))
 }
 
 // The run has four cabinets, the fourth down, and its first client is in the second part of a write.

@@ -21,7 +21,7 @@ fn pieces(s: &[u8], begun: &Begun, most: usize) -> Tally
     let mut at = begun.from;
     while at < s.len() {
         let piece = piece_from(s, at, &mut steps[..most]);
-        let same = three.take_piece(&steps[..piece.count]);
+        let same = three.take_piece(&steps, piece.count);
         tally.count(piece.count, same);
         at = piece.next;
     }

@@ -1,8 +1,11 @@
 // Three desks side by side: each piece of a list is taken singly by the first, in one go by the second, and in one go over a lent table by the
 // third.
+ghost use Rattle.std.specs.Prelude.{◌≤◌};
+ghost use Rattle.lists.specs.Whole.{most_listed};
+
 use super::told::{Desk, PLACES};
 use super::{calls, damage};
-use limits::MOST_CABINETS;
+use lists::MOST_LISTED;
 use run::Run;
 use types::Step;
 
@@ -24,13 +27,15 @@ impl Three {
         }
     }
 
-    // Whether the three agree. No step may change the third run's own records.
-    pub fn take_piece(&mut self, steps: &[Step]) -> bool {
+    // Whether the three agree over the first `count` steps. No step may change the third run's own records.
+    pub fn take_piece(&mut self, steps: &[Step; MOST_LISTED], count: usize) -> bool
+        requires { count ≤ most_listed }
+    {
         let own = self.third.run.cabinets;
-        let len = MOST_CABINETS.min(self.third.run.plan.n as usize);
-        let singly = calls::singly(&self.first, steps);
-        let by_run = calls::by_run(&self.second, steps, PLACES);
-        let lent = calls::lent(&self.third, len, steps, PLACES);
+        let len = self.third.run.plan.n as usize;
+        let singly = calls::singly(&self.first, &steps[..count]);
+        let by_run = calls::first_by_run(&self.second, steps, count, PLACES);
+        let lent = calls::first_lent(&self.third, len, steps, count, PLACES);
         self.first = singly.desk;
         self.second = by_run.desk;
         self.third = lent.desk;

@@ -52,7 +52,7 @@ pub fn take_list(run: &mut Run, steps: &[Step], answers: &mut [u8]) -> Whole
     Ok(())
 }
 
-// S21.1. The first `count` of the steps at hand; where fewer are at hand, all of them.
+// S20.9, S21.1. The first `count` of the steps at hand; where fewer are at hand, all of them.
 #[tactic(auto, using(crate::proofs::ListLaws::first_untaken), unfolding(crate::specs::Whole::untaken_of))]
 pub fn take_first(run: &mut Run, steps: &[Step], count: usize, answers: &mut [u8]) -> Whole
     ensures { (record { whole = result; run = run.new }, answers.new) ≡ first_of run.old steps.now count answers.old }
