@@ -1,9 +1,9 @@
 -- What the public contracts decide: any two outcomes that one allows for the same arguments agree on it. `new` and `goes_on` decide their
 -- results, and ask nothing of their callers. `feed` decides every byte of the buffer, where its text ends, the phase, the next row's number, the
--- run and what is held of a row. `finish` decides its result and every byte of the buffer. Not decided: of a row that is too long, by which length
--- above `most_line` `feed` says so; and the bytes of the row's array that are not held of a row, after `finish` all of them. `Post` and `Pre` are
--- the contract as the checker reads it in src/, so a weaker one is refused here, and for `new` and `goes_on` one that asks for something. Assumes
--- nothing.
+-- run and what is held of a row. `finish` decides its result and every byte of the buffer, and is lent nothing else. Not decided, of `feed` alone: of
+-- a row that is too long, by which length above `most_line` it says so; and the bytes of the row's array that are not held of a row. `Post` and
+-- `Pre` are the contract as the checker reads it in src/, so a weaker one is refused here, and for `new` and `goes_on` one that asks for something.
+-- Assumes nothing.
 use Prim.Native.Nat.{ℕ, ◌≤◌}
 use native.Mathlib.Omega.{arith}
 use mathlib.Core.Bool.{Bool, true, false, cond}

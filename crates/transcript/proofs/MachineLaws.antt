@@ -10,13 +10,13 @@ use lib.Seq.{take-suc, take-suc-set, length-take-le, take_all}
 use lib.Dec.{eqb, leb}
 use borrow.Author.Tests.{lt-ltb, le-ltb, le-leb, lt-leb, leb-true}
 use Rattle.std.proofs.lemmas.List.{take-take}
-use Rattle.transcript.specs.Names.{Phase, Run}
+use Rattle.transcript.specs.Names.{None, Phase, Run}
 use Rattle.text.specs.Ends.{unended}
 use Rattle.print.specs.Put.{put}
 use Rattle.print.specs.Numbers.{decimal, digits_by}
 use Rattle.print.specs.Rows.{row_text, no_header_text, head_text}
 use Rattle.print.proofs.PutLaws.{put_none, after}
-use Rattle.transcript.specs.Machine.{Held, Line, Over, Mach, short, next_row, say_line, push, step_m, say_m, run_m, say_all, end_by, held_of, most_line}
+use Rattle.transcript.specs.Machine.{Held, Line, Over, Mach, pick_held, short, next_row, say_line, push, step_m, say_m, run_m, say_all, end_by, held_of, most_line}
 
 -- ---- a row's bytes
 
@@ -133,12 +133,18 @@ end_empty Phase.Planning n run e = refl
 end_empty Phase.Running n run e = refl
 end_empty Phase.Ended n run e = refl
 
-end_over : (p : Phase) (n : ℕ) (run : Run) → say_line p n run Over ≡ end_by p n run Over
+end_long : (p : Phase) (n : ℕ) (run : Run) → say_line p n run Over ≡ end_by p n run Over
 unfolding end_by say_line
-end_over Phase.Header n run = refl
-end_over Phase.Planning n run = refl
-end_over Phase.Running n run = refl
-end_over Phase.Ended n run = refl
+end_long Phase.Header n run = refl
+end_long Phase.Planning n run = refl
+end_long Phase.Running n run = refl
+end_long Phase.Ended n run = refl
+
+-- a row that is too long is said as any other
+pub end_over : (p : Phase) (n : ℕ) (run : Run) (k : ℕ) (l : List ℕ) → most_line < k
+    → say_line p n run (pick_held None) ≡ end_by p n run (held_of k l)
+unfolding held_of
+end_over p n run k l h = rw (lt-leb _ _ h) (end_long p n run)
 
 -- a row that has a byte is said as any other, and the header row in any case
 pub end_held : (p : Phase) (n : ℕ) (run : Run) (k : ℕ) (l : List ℕ) → length l ≡ most_line → 0 < k
@@ -151,7 +157,7 @@ end_held p n run k l e z = go (leb k most_line) refl
         let few : k ≤ most_line = leb-true k most_line h in
         let some : length (take k l) ≡ k = length-take-le k l (omega arith) in
         end_some p n run (take k l) (omega arith)
-    go false h = end_over p n run
+    go false h = end_long p n run
 
 pub end_header : (p : Phase) (n : ℕ) (run : Run) (h : Held) → p ≡ Phase.Header → say_line p n run h ≡ end_by p n run h
 unfolding end_by

@@ -24,7 +24,7 @@ use Rattle.transcript.proofs.HeldLaws.{holds, hold_push, row_lf}
 
 -- ---- bytes without LF
 
-abbrev rowing : Held → ℕ → Run → Mach
+abbrev pub rowing : Held → ℕ → Run → Mach
 rowing h n run = record { held = h; phase = Phase.Running; row = n; run = run }
 
 byte_held : (h : Held) (n : ℕ) (run : Run) (b : ℕ) → (b ≡ 10 → ⊥) → step_m (rowing h n run) b ≡ rowing (push h b) n run
@@ -32,7 +32,7 @@ unfolding step_m
 byte_held h n run b e = rw (ne_eqb _ _ e)
 
 -- they are held
-bare_run : (p l : List ℕ) (n : ℕ) (run : Run) → breaks l ≡ 0 → run_m (rowing (holds p) n run) l ≡ rowing (holds (p ++ l)) n run
+pub bare_run : (p l : List ℕ) (n : ℕ) (run : Run) → breaks l ≡ 0 → run_m (rowing (holds p) n run) l ≡ rowing (holds (p ++ l)) n run
 unfolding run_m
 bare_run p [] n run e = ap (λ (x : List ℕ). rowing (holds x) n run) (sym (append-nil p))
 bare_run p (b ∷ l) n run e =
@@ -77,10 +77,10 @@ unfolding say_all say_m say_line
 lf_say h n run = append-nil _
 
 module _ (l : List ℕ) (n : ℕ) (run : Run) (bare : breaks l ≡ 0) where
-  row_run : run_m (at_row n run) (l ++ (10 ∷ [])) ≡ at_row (n + 1) (run_after run (row_of (unended l)))
+  pub row_run : run_m (at_row n run) (l ++ (10 ∷ [])) ≡ at_row (n + 1) (run_after run (row_of (unended l)))
   row_run = rw (run_append, bare_run [] l n run bare, lf_run (holds l) n run, row_lf l) refl
 
-  row_say : say_all (at_row n run) (l ++ (10 ∷ [])) ≡ answer_text n run (row_of (unended l))
+  pub row_say : say_all (at_row n run) (l ++ (10 ∷ [])) ≡ answer_text n run (row_of (unended l))
   row_say = rw (say_append, bare_say (at_row n run) l bare, bare_run [] l n run bare, lf_say (holds l) n run, row_lf l) refl
 
 -- ---- as a step

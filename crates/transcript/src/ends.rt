@@ -14,13 +14,14 @@ impl Rehearsal {
         self.phase != Phase::Ended
     }
 
-    // The input's end: a row that has no LF, or an input with no byte. Answers where the buffer's text ends.
+    // The input's end: a row that has no LF, or an input with no byte. Answers where the buffer's text ends. The rehearsal is handed over by value and
+    // none of it comes back, so that whoever still has it has it as it was.
     #[tactic(auto, using(crate::proofs::MachineLaws::at_end))]
-    pub fn finish(&mut self, out: &mut [u8], at: usize) -> usize
+    pub fn finish(mut self, out: &mut [u8], at: usize) -> usize
         requires answer_fits { at + room + room ≤ length out.old }
-        requires row_fits { self.old.row + 1 < 2 ^ 64 }
-        ensures out { out.new ≡ put out.old at (end_text (mach_of self.old)) }
-        ensures end { (result ≡ at + length (end_text (mach_of self.old))) × (result ≤ at + room) }
+        requires row_fits { self.row + 1 < 2 ^ 64 }
+        ensures out { out.new ≡ put out.old at (end_text (mach_of self)) }
+        ensures end { (result ≡ at + length (end_text (mach_of self))) × (result ≤ at + room) }
     {
         if self.len == 0 && self.phase != Phase::Header {
             return at;
