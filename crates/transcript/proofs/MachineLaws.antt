@@ -30,9 +30,9 @@ held_more n b l e h =
     let u : length (take n l) < most_line = omega arith in
     rw (le-leb _ _ q, le-leb _ _ k', lt-ltb _ _ u, add-one, take-suc-set l n b k)
 
-pub held_full : (n b : ℕ) (l : List ℕ) → length l ≡ most_line → most_line ≤ n → held_of (most_line + 1) l ≡ push (held_of n l) b
+pub held_full : (n b : ℕ) (l m : List ℕ) → length l ≡ most_line → most_line ≤ n → held_of (most_line + 1) m ≡ push (held_of n l) b
 unfolding held_of push
-held_full n b l e h = go (leb n most_line) refl
+held_full n b l m e h = go (leb n most_line) refl
   where
     go : (t : Bool) → leb n most_line ≡ t → Over ≡ push (cond t (Line (take n l)) Over) b
     go true f = let v : n ≤ most_line = leb-true n most_line f in let w : length (take n l) ≡ n = length-take-le n l (omega arith) in let u : most_line ≤ length (take n l) = omega arith in rw (le-ltb _ _ u)
@@ -56,9 +56,10 @@ held_short n l e h =
     let w : take (length (unended (take n l))) l ≡ unended (take n l) = sym (take-take (length (unended (take n l))) n l (omega arith)) ∙ q.1 in
     rw (le-leb _ _ h, le-leb _ _ k, w) refl
 
-pub held_over : (n : ℕ) (l : List ℕ) → most_line < n → held_of n l ≡ short (held_of n l)
+-- what is held of a row that is too long, at its LF too
+pub held_over : (n : ℕ) (l : List ℕ) → most_line < n → (held_of n l ≡ pick_held None) × (pick_held None ≡ short (held_of n l))
 unfolding held_of
-held_over n l h = rw (lt-leb _ _ h) refl
+held_over n l h = rw (lt-leb _ _ h) (refl, refl)
 
 -- what the code needs of these, for a byte that is held and for a row's end
 pub ruleset in_row = (held_more, held_full, held_short, held_over)
