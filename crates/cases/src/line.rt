@@ -1,5 +1,5 @@
 // The rows of a list that is held whole: what one says, and where the next one starts.
-ghost use Rattle.std.specs.Prelude.{◌≤◌, ◌<◌, length};
+ghost use Rattle.std.specs.Prelude.{◌≡◌, ◌≤◌, ◌<◌, length, take, drop};
 
 // A row without its LF and one CR before that.
 #[derive(Clone, Copy)]
@@ -11,7 +11,8 @@ pub struct Line<'a> {
 // A row without LF is the last, and a CR at its end is part of it. Past the last row stands an empty one.
 pub fn line_from(s: &[u8], from: usize) -> Line<'_>
     requires { from ≤ length s.now }
-    ensures { (result.next ≤ length s.now) × (from < length s.now → from < result.next) }
+    ensures row { result.row.now ≡ take (length result.row.now) (drop from s.now) }
+    ensures next_in_bounds { (result.next ≤ length s.now) × (from < length s.now → from < result.next) }
 {
     let rest = &s[from..];
     match rest.iter().position(|b| *b == b'\n') {

@@ -22,6 +22,15 @@ twenty s m = go _ refl
     go true e h = eqb-true (length s) 20 e
     go false e h = cc
 
+-- taken only from one entry to another, so that both buffers have its 20 bytes
+pub both_twenty : (h o : List ℕ) → verdict_on (entry_of h) (entry_of o) ≡ Verdict.Taken → (length h ≡ 20) × (length o ≡ 20)
+both_twenty h o = go _ _ refl refl
+  where
+    go : (m t : Option Entry) → entry_of h ≡ m → entry_of o ≡ t → verdict_on m t ≡ Verdict.Taken → (length h ≡ 20) × (length o ≡ 20)
+    go None t d f e = cc
+    go (Some m) None d f e = cc
+    go (Some m) (Some t) d f e = (twenty h m d, twenty o t f)
+
 module _ (h o : List ℕ) (mine theirs : Option Entry) (verdict : Verdict)
     (d : mine ≡ entry_of h) (f : theirs ≡ entry_of o) (j : verdict ≡ verdict_on mine theirs) where
   pub answered : number_of verdict ≡ answer_of h o

@@ -38,6 +38,7 @@ fn judge(held: Option<Entry>, offered: Option<Entry>) -> Verdict
 
 // S15.1, S20.6: the call for C; S15.7: offered is lent to be read. The buffers must not overlap; include/cabinet.h tells C so, and
 // the types tell Rattle.
+#[tactic(auto, using(crate::proofs::OfferLaws::both_twenty))]
 #[unsafe(no_mangle)]
 pub extern "C" fn cabinet_offer(held: &mut [u8], offered: &[u8]) -> u32
     ensures value { result ≡ answer_of held.old offered.now }
