@@ -8,7 +8,7 @@ use mathlib.Core.Path.{◌≡◌, refl, sym, ◌∙◌, ap}
 use lib.ListN.{length, length-append, get_or, set, take}
 use lib.Seq.{take-suc, take-suc-set, length-take-le, take_all}
 use lib.Dec.{eqb, leb}
-use borrow.Author.Tests.{lt-ltb, le-ltb, le-leb, lt-leb, leb-true}
+use borrow.Author.Tests.{ne_eqb, lt-ltb, le-ltb, le-leb, lt-leb, leb-true}
 use Rattle.std.proofs.lemmas.List.{take-take}
 use Rattle.transcript.specs.Names.{None, Phase, Run}
 use Rattle.text.specs.Ends.{unended}
@@ -112,6 +112,25 @@ module _ (m : Mach) (s : List ℕ) (i : ℕ) (h : i < length s) where
 
   pub say_next : say_all m (take (i + 1) s) ≡ say_all m (take i s) ++ say_m (run_m m (take i s)) (get_or s i 0)
   say_next = ap (say_all m) one_more ∙ say_snoc m (take i s) (get_or s i 0)
+
+-- a row that is too long stays so until its LF, and nothing is said
+module _ (m : Mach) (s : List ℕ) (i n : ℕ) (l : List ℕ) (p : Phase) (row : ℕ) (run : Run) (h : i < length s)
+    (over : most_line < n) (bare : get_or s i 0 ≡ 10 → ⊥)
+    (state : record { held = held_of n l; phase = p; row = row; run = run } ≡ run_m m (take i s)) where
+  stays : step_m (record { held = held_of n l; phase = p; row = row; run = run }) (get_or s i 0)
+      ≡ record { held = held_of n l; phase = p; row = row; run = run }
+  unfolding step_m held_of push
+  stays = rw (ne_eqb _ _ bare, lt-leb _ _ over) refl
+
+  silent : say_m (run_m m (take i s)) (get_or s i 0) ≡ []
+  unfolding say_m
+  silent = rw (ne_eqb _ _ bare) refl
+
+  pub over_stays : record { held = held_of n l; phase = p; row = row; run = run } ≡ run_m m (take (i + 1) s)
+  over_stays = sym (run_next m s i h ∙ ap (λ (x : Mach). step_m x (get_or s i 0)) (sym state) ∙ stays)
+
+  pub over_silent : say_all m (take (i + 1) s) ≡ say_all m (take i s)
+  over_silent = say_next m s i h ∙ ap (λ (x : List ℕ). say_all m (take i s) ++ x) silent ∙ append-nil _
 
 -- what the loop over a part's bytes needs
 pub ruleset in_part = (run_none, say_none, run_next, say_next, put_none, put_on, length-append)

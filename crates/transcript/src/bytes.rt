@@ -60,6 +60,10 @@ impl Rehearsal {
     {
         let mut end = at;
         for (i, &b) in s.iter().enumerate() {
+            // Of a row that is too long there is nothing to keep before its LF.
+            if self.len > MOST_LINE && b != b'\n' {
+                continue;
+            }
             if self.at_step() {
                 return (i, end);
             }
