@@ -9,7 +9,7 @@ ghost use Rattle.desk_lists.specs.Lent.{lent_first_of, lent_list_of};
 pub use array::list_local;
 use cabinet::Cabinet;
 use desk::{WrongLength, give_back, lend};
-use lists::{NoRoom, Whole, fits, take_list};
+use lists::{NoRoom, Whole, fill, fits, take_list};
 use run::Run;
 use types::Step;
 
@@ -22,7 +22,7 @@ pub fn list_lent(run: &mut Run, table: &mut [Cabinet], steps: &[Step], answers: 
         return Err(NoRoom);
     }
     if table.len() != run.plan.n as usize {
-        answers[..steps.len()].fill(u8::from(WrongLength));
+        fill(answers, steps.len(), u8::from(WrongLength));
         return Ok(());
     }
     let own = lend(run, table);

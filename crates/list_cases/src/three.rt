@@ -1,11 +1,7 @@
 // Three desks side by side: each piece of a list is taken singly by the first, in one go by the second, and in one go over a lent table by the
 // third.
-ghost use Rattle.std.specs.Prelude.{◌≤◌};
-ghost use Rattle.lists.specs.Whole.{most_listed};
-
 use super::told::{Desk, PLACES};
 use super::{calls, damage};
-use lists::MOST_LISTED;
 use run::Run;
 use types::Step;
 
@@ -28,12 +24,10 @@ impl Three {
     }
 
     // Whether the three agree over the first `count` steps. No step may change the third run's own records.
-    pub fn take_piece(&mut self, steps: &[Step; MOST_LISTED], count: usize) -> bool
-        requires { count ≤ most_listed }
-    {
+    pub fn take_piece(&mut self, steps: &[Step], count: usize) -> bool {
         let own = self.third.run.cabinets;
         let len = self.third.run.plan.n as usize;
-        let singly = calls::singly(&self.first, &steps[..count]);
+        let singly = calls::singly(&self.first, &steps[..count.min(steps.len())]);
         let by_run = calls::first_by_run(&self.second, steps, count, PLACES);
         let lent = calls::first_lent(&self.third, len, steps, count, PLACES);
         self.first = singly.desk;

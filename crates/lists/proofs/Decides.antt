@@ -6,6 +6,7 @@ use mathlib.Core.Bool.{Bool}
 use mathlib.Core.List.{List}
 use mathlib.Core.Path.{◌≡◌, sym, ap, ◌∙◌}
 use Rattle.lists.specs.Names.{Listed, Whole}
+use Rattle.lists.proofs.fill.Reads as fill
 use Rattle.lists.proofs.fits.Reads as fits
 use Rattle.lists.proofs.take_list.Reads as take-list
 use Rattle.lists.proofs.take_first.Reads as take-first
@@ -34,6 +35,9 @@ fits_decides κs a x y s s' p q = p ∙ sym q
 
 pub fits_any : (κs : _) (a : _) → fits.Pre κs a
 fits_any κs a = tt
+
+pub fill_decides : (κs : _) (a : _) (r r' : _) (s s' : _) → fill.Post κs a r s → fill.Post κs a r' s' → s.0.now ≡ s'.0.now
+fill_decides κs a r r' s s' p q = p ∙ sym q
 
 pub no_room_number_decides : (κs : _) (a : _) (x y : ℕ) (s s' : _) → no-room-number.Post κs a x s → no-room-number.Post κs a y s' → x ≡ y
 no_room_number_decides κs a x y s s' p q = p ∙ sym q

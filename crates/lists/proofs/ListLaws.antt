@@ -48,11 +48,10 @@ front_more (m ∷ ns) [] n h = absurd (omega arith)
 front_more (m ∷ ns) (t ∷ table) n h = ap (λ (l : List ℕ). m ∷ l) (front_more ns table n (omega arith))
 
 -- one number for all
-pub front_filled : (count m n : ℕ) (table front : List ℕ) → fits count (length table) ≡ true → front ≡ replicate (length (take count table)) m → m ≡ n
+pub front_filled : (count n : ℕ) (table front : List ℕ) → count ≤ length table → front ≡ replicate (length (take count table)) n
     → front ++ drop count table ≡ in_front (replicate count n) table
 unfolding in_front
-front_filled count m n table front h e is =
-    rw (e, length-take-le count table (fits_says count (length table) h).1, length-replicate count n, is)
+front_filled count n table front h e = rw (e, length-take-le count table h, length-replicate count n)
 
 -- ---- the numbers
 

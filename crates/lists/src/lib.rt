@@ -1,9 +1,9 @@
 // A list of steps in one go: the run after all of them, and the number of each answer in a lent table.
 #![tactic(auto)]
 
-ghost use Rattle.std.specs.Prelude.{◌≡◌};
+ghost use Rattle.std.specs.Prelude.{◌≡◌, ◌≤◌, length, replicate};
 ghost use Rattle.lists.specs.Names.{Err};
-ghost use Rattle.lists.specs.Whole.{fits, first_of, list_of, whole_number};
+ghost use Rattle.lists.specs.Whole.{fits, first_of, in_front, list_of, whole_number};
 
 use run::Run;
 use types::{Refusal, Step, answer_number};
@@ -34,6 +34,14 @@ pub fn fits(count: usize, places: usize) -> bool
     count <= MOST_LISTED && count <= places
 }
 
+// S21.4. One number for each of the first `count` answers; those behind are as they were.
+pub fn fill(answers: &mut [u8], count: usize, number: u8)
+    requires { count ≤ length answers.old }
+    ensures { answers.new ≡ in_front (replicate count number) answers.old }
+{
+    answers[..count].fill(number);
+}
+
 // S20.9, S21.3. Steps and answers are lent slices; the run is looked at once, before the first step, since none of them damages it.
 #[tactic(auto, using(crate::proofs::ListLaws::list_untaken), unfolding(crate::specs::Whole::untaken_of))]
 pub fn take_list(run: &mut Run, steps: &[Step], answers: &mut [u8]) -> Whole
@@ -43,7 +51,7 @@ pub fn take_list(run: &mut Run, steps: &[Step], answers: &mut [u8]) -> Whole
         return Err(NoRoom);
     }
     if !run.undamaged() {
-        answers[..steps.len()].fill(u8::from(Refusal::Damaged));
+        fill(answers, steps.len(), u8::from(Refusal::Damaged));
         return Ok(());
     }
     for (i, s) in steps.iter().enumerate() {

@@ -1,16 +1,19 @@
 -- `take_list` meets its contract: each way to its answer. Assumes nothing.
-use Rattle.std.proofs.Common.{ℕ, List, true, ◌≡◌, length, sym, ap, ◌∙◌}
+use Rattle.std.proofs.Common.{ℕ, List, true, ◌≡◌, length, replicate, sym, ap, ◌∙◌}
 use Rattle.lists.specs.Names.{Ok}
-use Rattle.lists.specs.Whole.{fits}
-use Rattle.lists.proofs.ListLaws.{list_taken, fits_says, front_filled, taken_damaged, going_none, going_next, going_all}
+use Rattle.lists.specs.Whole.{fits, in_front}
+use Rattle.lists.proofs.ListLaws.{list_taken, fits_says, taken_damaged, going_none, going_next, going_all}
 use Rattle.lists.proofs.take_list.Goals as goal
+
+pub fill-requires : goal.fill-requires
+fill-requires c = (fits_says _ _ (sym c.fits.ensures ∙ c.if-not-fits.false)).1
 
 pub returns-then-not-undamaged : goal.returns-then-not-undamaged
 returns-then-not-undamaged c =
     let a = c.args in
     let room : fits (length a.steps.now) (length a.answers.now) ≡ true = sym c.fits.ensures ∙ c.if-not-fits.false in
-    let written = c.fill.ensures.after (λ y e. e) in
-    let filled = front_filled (length a.steps.now) c.from.result 1 a.answers.now c.fill.new.self room written c.from.ensures in
+    let each : c.from.result ≡ 1 = c.from.ensures in
+    let filled = c.fill.ensures ∙ ap (λ (n : ℕ). in_front (replicate (length a.steps.now) n) a.answers.now) each in
     ap (λ (l : List ℕ). (record { whole = Ok tt; run = a.run.now }, l)) filled
     ∙ taken_damaged a.run.now (sym c.undamaged.ensures ∙ c.if-not-undamaged.true) a.steps.now a.answers.now
     ∙ list_taken a.run.now a.steps.now a.answers.now room
