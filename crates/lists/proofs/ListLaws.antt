@@ -19,7 +19,7 @@ use Rattle.run.proofs.FrameLaws.{step_damaged}
 use Rattle.run.proofs.ListLaws.{run_append, run_more}
 use Rattle.run.proofs.UndamagedLaws.{step_undamaged}
 use Rattle.lists.specs.Names.{Listed, Ok, Run, Step, Stepped}
-use Rattle.lists.specs.Whole.{most_listed, fits, numbers_of, in_front, taken_of, untaken_of, list_of, first_of}
+use Rattle.lists.specs.Whole.{most_listed, fits, numbers_of, in_front, taken_of, untaken_of, list_of, first_list_of}
 
 -- ---- what fits
 
@@ -154,30 +154,30 @@ module _ (run : Run) (steps : List Step) (table : List ℕ) where
 -- ---- the first of the steps at hand
 
 module _ (run : Run) (steps : List Step) (count : ℕ) (table : List ℕ) where
-  pub first_untaken : fits count (length table) ≡ false → untaken_of run table ≡ first_of run steps count table
-  unfolding first_of
+  pub first_untaken : fits count (length table) ≡ false → untaken_of run table ≡ first_list_of run steps count table
+  unfolding first_list_of
   first_untaken e = rw e
 
   -- what stands behind them is not looked at
-  pub first_taken : fits count (length table) ≡ true → list_of run (take count steps) table ≡ first_of run steps count table
-  unfolding first_of
+  pub first_taken : fits count (length table) ≡ true → list_of run (take count steps) table ≡ first_list_of run steps count table
+  unfolding first_list_of
   first_taken e =
       let f = fits_says count (length table) e in
       let few : length (take count steps) ≤ count = omega (arith, length-take count steps) in
       sym (list_taken run (take count steps) table (fits_made (length (take count steps)) (length table) (omega arith) (omega arith))) ∙ rw e
 
   -- the list of them, where so many fit: a count that doesn't is refused, whatever the steps
-  pub first_cut : first_of run steps count table ≡ cond (fits count (length table)) (list_of run (take count steps) table) (untaken_of run table)
+  pub first_cut : first_list_of run steps count table ≡ cond (fits count (length table)) (list_of run (take count steps) table) (untaken_of run table)
   first_cut = go _ refl
     where
       go : (t : Bool) → fits count (length table) ≡ t
-          → first_of run steps count table ≡ cond t (list_of run (take count steps) table) (untaken_of run table)
+          → first_list_of run steps count table ≡ cond t (list_of run (take count steps) table) (untaken_of run table)
       go true e = sym (first_taken e)
       go false e = sym (first_untaken e)
 
 -- all of them are the list
-pub first_whole : (run : Run) (steps : List Step) (table : List ℕ) → first_of run steps (length steps) table ≡ list_of run steps table
-unfolding first_of list_of
+pub first_whole : (run : Run) (steps : List Step) (table : List ℕ) → first_list_of run steps (length steps) table ≡ list_of run steps table
+unfolding first_list_of list_of
 first_whole run steps table = rw (take_all (length steps) steps (omega arith))
 
 -- ---- a list cut in two

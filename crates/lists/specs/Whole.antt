@@ -44,5 +44,5 @@ unfoldable pub list_of : Run → List Step → List ℕ → Listed × List ℕ
 list_of run steps table = cond (fits (length steps) (length table)) (taken_of run steps table) (untaken_of run table)
 
 -- S21.1, S21.2: of the first `count` of the steps at hand
-unfoldable pub first_of : Run → List Step → ℕ → List ℕ → Listed × List ℕ
-first_of run steps count table = cond (fits count (length table)) (taken_of run (take count steps) table) (untaken_of run table)
+unfoldable pub first_list_of : Run → List Step → ℕ → List ℕ → Listed × List ℕ
+first_list_of run steps count table = cond (fits count (length table)) (taken_of run (take count steps) table) (untaken_of run table)

@@ -3,7 +3,7 @@
 
 ghost use Rattle.std.specs.Prelude.{◌≡◌, ◌≤◌, length, replicate};
 ghost use Rattle.lists.specs.Names.{Err};
-ghost use Rattle.lists.specs.Whole.{fits, first_of, in_front, list_of, whole_number};
+ghost use Rattle.lists.specs.Whole.{fits, first_list_of, in_front, list_of, whole_number};
 
 use run::Run;
 use types::{Refusal, Step, answer_number};
@@ -63,7 +63,7 @@ pub fn take_list(run: &mut Run, steps: &[Step], answers: &mut [u8]) -> Whole
 // S20.9, S21.1. The first `count` of the steps at hand; where fewer are at hand, all of them.
 #[tactic(auto, using(crate::proofs::ListLaws::first_untaken), unfolding(crate::specs::Whole::untaken_of))]
 pub fn take_first(run: &mut Run, steps: &[Step], count: usize, answers: &mut [u8]) -> Whole
-    ensures { (record { whole = result; run = run.new }, answers.new) ≡ first_of run.old steps.now count answers.old }
+    ensures { (record { whole = result; run = run.new }, answers.new) ≡ first_list_of run.old steps.now count answers.old }
 {
     if !fits(count, answers.len()) {
         return Err(NoRoom);

@@ -12,7 +12,7 @@ use Rattle.numbers.specs.Names.{Cabinet, Listed, Run, Step}
 use Rattle.run.specs.Steps.{step_of}
 use Rattle.run.proofs.FrameLaws.{step_lengths}
 use Rattle.desk.specs.Desk.{with_cabinets, with_records, viewed, answered, wrong_length, lent_of, table_of}
-use Rattle.lists.specs.Whole.{most_listed, whole_number, fits, numbers_of, in_front, taken_of, untaken_of, list_of, first_of}
+use Rattle.lists.specs.Whole.{most_listed, whole_number, fits, numbers_of, in_front, taken_of, untaken_of, list_of, first_list_of}
 use Rattle.lists.proofs.ListLaws.{first_whole}
 use Rattle.desk_lists.specs.Lent.{lent_numbers, lent_taken_of, lent_untaken_of, lent_list_of, lent_first_of}
 use Rattle.desk_lists.proofs.LentLaws.{lent_first_whole}
@@ -40,8 +40,8 @@ room_number count places = go _ _ refl refl
 
 -- of the first `count` of the steps at hand, whatever the count
 module _ (run : Run) (steps : List Step) (count : ℕ) (answers : List ℕ) where
-  pub first_number : whole_number (first_of run steps count answers).0.whole ≡ list_table_number count (length answers)
-  unfolding first_of taken_of untaken_of
+  pub first_number : whole_number (first_list_of run steps count answers).0.whole ≡ list_table_number count (length answers)
+  unfolding first_list_of taken_of untaken_of
   first_number = by (fits count (length answers)) ∙ room_number count (length answers)
     where
       by : (t : Bool) → whole_number (cond t (taken_of run (take count steps) answers) (untaken_of run answers)).0.whole ≡ cond t 0 16
@@ -97,8 +97,8 @@ lent_list_numbers run table (s ∷ ss) size =
 
 module _ (run : Run) (steps : List Step) (count : ℕ) (answers : List ℕ) (size : length run.slots ≡ most_slots)
     (room : fits count (length answers) ≡ true) where
-  pub first_numbers : (first_of run steps count answers).1 ≡ in_front (table_numbers run (take count steps)) answers
-  unfolding first_of taken_of
+  pub first_numbers : (first_list_of run steps count answers).1 ≡ in_front (table_numbers run (take count steps)) answers
+  unfolding first_list_of taken_of
   first_numbers = rw room (ap (λ (ns : List ℕ). in_front ns answers) (list_numbers run (take count steps) size))
 
   pub lent_first_numbers : (records : List Cabinet)

@@ -12,7 +12,7 @@ use Rattle.run.specs.Lists.{run_all}
 use Rattle.run.specs.Start.{start_of}
 use Rattle.run.specs.Steps.{step_of}
 use Rattle.desk.specs.Desk.{lent_of, table_of}
-use Rattle.lists.specs.Whole.{fits, taken_of, untaken_of, list_of, first_of}
+use Rattle.lists.specs.Whole.{fits, taken_of, untaken_of, list_of, first_list_of}
 use Rattle.lists.proofs.ListLaws.{first_whole}
 use Rattle.desk_lists.specs.Lent.{lent_run, lent_table, lent_taken_of, lent_untaken_of, lent_list_of, lent_first_of}
 use Rattle.desk_lists.proofs.LentLaws.{lent_first_whole}
@@ -27,7 +27,7 @@ use Rattle.served.proofs.Served.{lent_promise}
 
 -- a call leaves the run that the steps which it takes leave
 call_run : (run : Run) (c : Call) → run_by run c ≡ run_all run (taken_by c)
-unfolding taken_by first_of taken_of untaken_of run_all
+unfolding taken_by first_list_of taken_of untaken_of run_all
 call_run run c = go (fits c.count (length c.answers))
   where
     go : (t : Bool) → (cond t (taken_of run (take c.count c.steps) c.answers) (untaken_of run c.answers)).0.run

@@ -2,7 +2,7 @@
 -- steps that each takes, and the events of them.
 use Rattle.std.specs.Prelude.{ℕ, cond, List, [], ◌∷◌, ◌++◌, length, take}
 use Rattle.served.specs.Names.{Cabinet, Run, Step}
-use Rattle.lists.specs.Whole.{fits, first_of}
+use Rattle.lists.specs.Whole.{fits, first_list_of}
 use Rattle.desk_lists.specs.Lent.{lent_first_of}
 use Rattle.promise.specs.Events.{Event, events}
 use Rattle.served.specs.Served.{lent_events}
@@ -28,7 +28,7 @@ taken_by_all (c ∷ cs) = taken_by c ++ taken_by_all cs
 
 -- S21.3: the run after a call
 abbrev pub run_by : Run → Call → Run
-run_by run c = (first_of run c.steps c.count c.answers).0.run
+run_by run c = (first_list_of run c.steps c.count c.answers).0.run
 
 -- S21.7: the events of calls: those of the steps of each, in order
 abbrev pub call_events : Run → List Call → List Event
