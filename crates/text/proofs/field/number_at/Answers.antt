@@ -3,6 +3,7 @@ use lib.ListN.{length, drop}
 use mathlib.Core.List.{[]}
 use mathlib.Core.Path.{◌≡◌, refl, sym, ◌∙◌, ap}
 use native.Mathlib.Omega.{arith}
+use Rattle.std.proofs.lemmas.Bool.Decides.{nat_tests}
 use Rattle.text.proofs.NumberLaws.{field_end, field_comma, field_next, value_low, value_high, value_next, grown, number_not, number_over, number_none, number_one, number_several}
 use Rattle.text.specs.Pieces.{first}
 use Rattle.text.proofs.field.number_at.Goals as goal
@@ -49,8 +50,8 @@ returns-clause-value c =
     elim c.if-n-gt0.branch [
       | then-n-gt0 w ↦
           elim c.if-several.branch [
-            | then-several u ↦ number_several _ _ _ loop.few loop.value loop.left no_more _ _ u.if-several.true u.padded-is w.then_some-is
-            | else-several u ↦ number_one _ _ _ loop.few loop.value loop.left no_more _ _ (omega arith) u.padded-is w.then_some-is
+            | then-several u ↦ number_several _ _ _ loop.few loop.value loop.left no_more _ _ (omega arith) u.padded-is w.then_some-is
+            | else-several u ↦ number_one _ _ _ loop.few loop.value loop.left no_more _ _ (omega arith) (grind (arith, nat_tests)) w.then_some-is
           ]
       | else-n-gt0 w ↦ number_none _ _ _ loop.few loop.value loop.left no_more _ w.if-n-gt0.false w.then_some-is
     ]
